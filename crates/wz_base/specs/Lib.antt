@@ -1,0 +1,6 @@
+pub mod Outside
+pub mod Whole
+pub mod Calls
+pub mod Named
+pub mod MemFiles
+pub mod MemSink

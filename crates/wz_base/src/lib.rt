@@ -1,0 +1,18 @@
+//! The outside of the board runner: files that are read, a sink that is written, and both in memory.
+#![tactic(auto)]
+
+pub mod calls;
+pub mod memory_files;
+pub mod memory_sink;
+pub mod outside;
+pub mod reading;
+pub mod writing;
+
+pub use memory_files::MemFiles;
+pub use memory_sink::MemSink;
+pub use outside::{Failed, Files, PickFault, Sink, Source};
+pub use reading::{ReadError, read_whole};
+pub use writing::{WriteError, write_all};
+
+#[cfg(test)]
+mod tests;

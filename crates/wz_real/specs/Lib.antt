@@ -1,0 +1,2 @@
+pub mod StandardFiles
+pub mod StandardOut
