@@ -1,0 +1,4 @@
+mod FramerLaws
+mod Tables
+mod CommonPlaces
+mod Free

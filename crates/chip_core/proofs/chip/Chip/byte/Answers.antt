@@ -1,0 +1,27 @@
+use Rattle.std.proofs.Common.{◌≡◌, None, sym, ap, ◌∙◌}
+use Rattle.chip_sheet.specs.declared.phase.Phase.{Phase}
+use Rattle.chip_sheet.specs.declared.event.BusEvent.TheVariants.{Byte}
+use Rattle.chip_sheet.specs.declared.event.BusAnswer.TheVariants.{Out}
+use Rattle.chip_sheet.specs.Frames.{access, access_in}
+use Rattle.chip_sheet.specs.Answers.{byte_out}
+use Rattle.chip_sheet.specs.Stops.{stop}
+use Rattle.chip_core.proofs.chip.Chip.byte.Goals as goal
+
+pub returns-clause-answered : goal.returns-clause-answered
+returns-clause-answered c = λ past stands.
+    let v = c.args.v in
+    let answer = Out c.exchange-out.result in
+    let is : c.access_in-made.result ≡ access past (Byte v) =
+    c.access_in-made.ensures ∙ ap (λ (p : Phase). access_in p v) (c.byte.ensures.phase past stands.framer) in
+    let free : stop past (Byte v) ≡ None = cc in
+    let out = c.exchange-out.ensures.out past stands.registers (c.idle_byte-idle.ensures past stands) ∙ ap (byte_out past) is in
+    record {
+      unstopped = c.requires;
+      allowed = free;
+      is = ap Out out;
+      stands = record {
+        framer = c.byte.ensures.after past answer stands.framer;
+        registers = c.exchange-out.ensures.after past (Byte v) answer (sym is) stands.registers;
+      };
+      goes_on = c.requires;
+    }
