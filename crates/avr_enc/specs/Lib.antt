@@ -1,0 +1,4 @@
+pub mod Shapes
+pub mod Words
+pub mod Text
+pub mod Syntax
