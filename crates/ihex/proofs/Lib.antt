@@ -1,0 +1,5 @@
+mod Behind
+mod Cut
+mod Flash
+mod Pairs
+mod Pieces
