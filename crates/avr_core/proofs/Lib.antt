@@ -1,0 +1,2 @@
+pub mod BitTables
+pub mod Settling

@@ -1,0 +1,14 @@
+pub mod Ask
+pub mod Calls
+pub mod Registers
+pub mod Steps
+pub mod Access
+pub mod Stack
+pub mod SumRows
+pub mod ProductRows
+pub mod LogicRows
+pub mod MoveRows
+pub mod JumpRows
+pub mod BitRows
+pub mod Meaning
+pub mod Settled

@@ -1,0 +1,29 @@
+//! The core of the ATmega328P: one instruction or one interrupt entry at a time, over any data bus.
+//!
+//! What a step means stands in `specs/Meaning.antt`, a row of the Instruction Set Manual a line: the calls that it makes
+//! on the bus, in order, and the core after it. A layer above lends its devices as a `DataBus` and reads the contract of
+//! `Core::step` as a play of that meaning over its own bus.
+#![tactic(auto)]
+
+mod access;
+mod bits;
+mod bus;
+mod cpu;
+mod effects;
+mod jumps;
+mod logic;
+mod masks;
+mod moves;
+mod pointers;
+mod products;
+mod stack;
+mod step;
+mod sums;
+mod went;
+
+pub use bus::{DataBus, DataEnd};
+pub use cpu::Core;
+pub use went::{AvrStop, Went};
+
+#[cfg(test)]
+mod tests;
