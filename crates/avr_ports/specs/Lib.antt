@@ -1,0 +1,7 @@
+pub mod Bits
+pub mod Registers
+pub mod Sense
+pub mod Ports
+pub mod Levels
+pub mod Requests
+pub mod Writes
