@@ -1,0 +1,11 @@
+ghost use Rattle.avr_timer.specs.Laws.{TicksAddUp, SpansAddUp};
+
+/// A law over the definitions alone: how a span of ticks is cut changes nothing, neither the counter nor its flags.
+pub fn ticks_add_up()
+    ensures { TicksAddUp }
+{}
+
+/// A law over the definitions alone: passing one span of cycles and then the next is passing both at once.
+pub fn spans_add_up()
+    ensures { SpansAddUp }
+{}
