@@ -1,0 +1,2 @@
+mod Mirror
+mod Time
