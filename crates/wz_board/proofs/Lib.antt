@@ -1,0 +1,11 @@
+mod Each
+mod Fronts
+mod Heads
+mod Lines
+mod Listed
+mod Places
+mod Ran
+mod Runs
+mod Shown
+mod Spaces
+mod Used

@@ -1,0 +1,55 @@
+-- Statuses and texts of the ends of a command.
+use Rattle.std.specs.Prelude.{ℕ, List, [], ◌∷◌, ◌++◌, codes}
+use Rattle.std.specs.Fmt.{decimal}
+use Rattle.ihex.specs.declared.fault.HexFault.{HexFault}
+use Rattle.ihex.specs.declared.fault.HexKind.{HexKind}
+use Rattle.ihex.specs.declared.fault.HexKind.TheVariants.{AfterEnd, BadStart, BadDigit, BadLength, BadSum, BadType, OutOfFlash, NoEnd}
+use Rattle.wz_board.specs.declared.end.Refusal.{Refusal}
+use Rattle.wz_board.specs.declared.end.Refusal.TheVariants.{Usage, NoFile, ReadFault, TooLong, Hex, NotBuilt}
+use Rattle.wz_board.specs.declared.end.EndKind.{EndKind}
+use Rattle.wz_board.specs.declared.end.EndKind.TheVariants.{Done, WriteFault, NoMemory, Refused}
+
+-- The exit status of an end.
+abbrev pub status_of : EndKind → ℕ
+status_of Done = 0
+status_of (Refused Usage) = 2
+status_of (Refused (Hex fault)) = 3
+status_of (Refused NoFile) = 5
+status_of (Refused ReadFault) = 5
+status_of WriteFault = 6
+status_of NoMemory = 7
+status_of (Refused TooLong) = 11
+status_of (Refused NotBuilt) = 12
+
+-- The name of a kind of fault.
+abbrev pub kind_text : HexKind → List ℕ
+kind_text AfterEnd = codes "AfterEnd"
+kind_text BadStart = codes "BadStart"
+kind_text BadDigit = codes "BadDigit"
+kind_text BadLength = codes "BadLength"
+kind_text BadSum = codes "BadSum"
+kind_text BadType = codes "BadType"
+kind_text OutOfFlash = codes "OutOfFlash"
+kind_text NoEnd = codes "NoEnd"
+
+-- The line that the fault of an Intel HEX text prints.
+abbrev pub hex_text : HexFault → List ℕ
+hex_text fault = codes "fault hex " ++ kind_text fault.kind ++ 32 ∷ (decimal fault.line ++ 10 ∷ [])
+
+-- The line that a refusal prints; 1 is the number of the operand.
+abbrev pub fault_text : Refusal → List ℕ
+fault_text Usage = codes "fault usage\n"
+fault_text NoFile = codes "fault nofile 1\n"
+fault_text ReadFault = codes "fault read 1\n"
+fault_text TooLong = codes "fault long 1\n"
+fault_text (Hex fault) = hex_text fault
+fault_text NotBuilt = codes "fault not-built\n"
+
+-- A refusal whose line has no values.
+abbrev pub IsPlain : Refusal → Type 0
+IsPlain Usage = Unit {0}
+IsPlain NoFile = Unit {0}
+IsPlain ReadFault = Unit {0}
+IsPlain TooLong = Unit {0}
+IsPlain (Hex fault) = ⊥
+IsPlain NotBuilt = Unit {0}

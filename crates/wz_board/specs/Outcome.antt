@@ -1,0 +1,126 @@
+-- What a command comes to.
+use Rattle.std.specs.Prelude.{◌≡◌, ◌<◌, ◌≤◌, ℕ, List, [], ◌++◌, length, Option, None, Some, IfSome, IsSomeAnd}
+use Rattle.chip_sheet.specs.declared.event.BusEvent.{BusEvent}
+use Rattle.chip_sheet.specs.declared.stop.ChipStop.{ChipStop}
+use Rattle.chip_sheet.specs.declared.stop.ChipStop.TheVariants as stops
+use Rattle.chip_sheet.specs.Past.{Past, GoesOn}
+use Rattle.wz_base.specs.Whole.{Appends, AppendsFront}
+use Rattle.wz_board.specs.declared.end.Refusal.{Refusal}
+use Rattle.wz_board.specs.declared.end.Refusal.TheVariants as refusals
+use Rattle.wz_board.specs.declared.end.EndKind.{EndKind}
+use Rattle.wz_board.specs.declared.end.EndKind.TheVariants.{Done, WriteFault, NoMemory, Refused}
+use Rattle.wz_board.specs.declared.quick.TheConstants.{TEXT_LIMIT}
+use Rattle.wz_board.specs.Ends.{fault_text}
+use Rattle.ihex.specs.declared.fault.HexFault.{HexFault}
+use Rattle.ihex.specs.Flash.{written}
+use Rattle.ihex.specs.Image.{erased}
+use Rattle.ihex.specs.Text.{data_in, fault_in}
+use Rattle.wz_board.specs.Listing.{listing}
+use Rattle.wz_board.specs.Words.{Asked, Bus, ListOf, operand_of}
+use Rattle.wz_board.specs.Script.{script_lines}
+use Rattle.wz_board.specs.Run.{Run, run_after}
+
+-- How a command ends, with its history and its text.
+pub record Outcome : Type 0 where
+  pub end : EndKind
+  pub past : Past
+  pub text : List ℕ
+
+-- A refusal before anything happened.
+abbrev pub refused : Refusal → Outcome
+refused r = record { end = Refused r; past = []; text = fault_text r }
+
+-- The refusal that a stop of the chip is.
+abbrev pub refusal_of : ChipStop → Refusal
+refusal_of stops.NotBuilt = refusals.NotBuilt
+
+-- What a run that ended with this stop, if with one, comes to: its text, and then the line of the stop.
+abbrev pub end_of : Run → Option ChipStop → Outcome
+end_of run None = record { end = Done; past = run.past; text = run.text }
+end_of run (Some s) =
+    record { end = Refused (refusal_of s); past = run.past; text = run.text ++ fault_text (refusal_of s) }
+
+-- What the lines of a script come to: where there are none, a token is of another form, and nothing runs.
+abbrev pub lines_outcome : Option (List (List BusEvent)) → Outcome
+lines_outcome None = refused refusals.NotBuilt
+lines_outcome (Some lines) = end_of (run_after [] lines) (run_after [] lines).stop
+
+-- What the listing of an Intel HEX text comes to: the refusal of its first fault, or the lines of its image.
+abbrev pub listed_outcome : List ℕ → Option HexFault → Outcome
+listed_outcome text None = record { end = Done; past = []; text = listing (written erased (data_in text)) }
+listed_outcome text (Some fault) = refused (refusals.Hex fault)
+
+-- What a command comes to, whose operand is this text.
+abbrev pub text_outcome : Asked → List ℕ → Outcome
+text_outcome (Bus script) text = lines_outcome (script_lines text)
+text_outcome (ListOf image) text = listed_outcome text (fault_in text)
+
+-- What was read of an operand.
+pub data Reading : Type 0 where
+  Whole : (text : List ℕ) → Reading
+  NoFile : Reading
+  ReadFault : Reading
+  TooLong : Reading
+  NoRoom : Reading
+
+-- What files may give of a name that holds these bytes, or none.
+abbrev pub Gave : Option (List ℕ) → Reading → Type 0
+Gave held (Whole text) = held ≡ Some text
+Gave held NoFile = held ≡ None
+Gave held ReadFault = Unit {0}
+Gave held TooLong = IsSomeAnd held (λ bytes. TEXT_LIMIT < length bytes)
+Gave held NoRoom = Unit {0}
+
+-- What files may give of a name. Where they are told, it is what the name holds, or a failed read.
+abbrev pub MayRead : Option (List ℕ → Option (List ℕ)) → List ℕ → Reading → Type 0
+MayRead files name reading = IfSome files (λ held. Gave (held name) reading)
+
+-- A text that was read is within the limit.
+abbrev pub Fits : Reading → Type 0
+Fits (Whole text) = length text ≤ TEXT_LIMIT
+Fits NoFile = Unit {0}
+Fits ReadFault = Unit {0}
+Fits TooLong = Unit {0}
+Fits NoRoom = Unit {0}
+
+-- What a command comes to, whose operand was read like this.
+abbrev pub outcome_of : Asked → Reading → Outcome
+outcome_of form (Whole text) = text_outcome form text
+outcome_of form NoFile = refused refusals.NoFile
+outcome_of form ReadFault = refused refusals.ReadFault
+outcome_of form TooLong = refused refusals.TooLong
+outcome_of form NoRoom = record { end = NoMemory; past = []; text = [] }
+
+-- The history and the text are fronts of what they should be.
+abbrev pub IsCut : Outcome → Past → Option (List ℕ) → Option (List ℕ) → Type 0
+IsCut o past old new = GoesOn past o.past × AppendsFront old o.text new
+
+-- The end, the history and the text are what they should be.
+abbrev pub IsWhole : Outcome → EndKind → Past → Option (List ℕ) → Option (List ℕ) → Type 0
+IsWhole o end past old new = (end ≡ o.end) × (past ≡ o.past) × Appends old o.text new
+
+-- What is given of an outcome: the whole of it, or a front where a write failed or memory was not there.
+abbrev pub Shows : Outcome → EndKind → Past → Option (List ℕ) → Option (List ℕ) → Type 0
+Shows o WriteFault past old new = IsCut o past old new
+Shows o NoMemory past old new = IsCut o past old new
+Shows o Done past old new = IsWhole o Done past old new
+Shows o (Refused r) past old new = IsWhole o (Refused r) past old new
+
+-- An end that a command comes to once its operand was read.
+abbrev pub IsOwn : EndKind → Type 0
+IsOwn Done = Unit {0}
+IsOwn WriteFault = Unit {0}
+IsOwn NoMemory = Unit {0}
+IsOwn (Refused refusals.Usage) = ⊥
+IsOwn (Refused refusals.NoFile) = ⊥
+IsOwn (Refused refusals.ReadFault) = ⊥
+IsOwn (Refused refusals.TooLong) = ⊥
+IsOwn (Refused (refusals.Hex fault)) = Unit {0}
+IsOwn (Refused refusals.NotBuilt) = Unit {0}
+
+-- What the words come to over these files: a refusal where they are no written form; else the outcome of what was read of
+-- the operand.
+abbrev pub Reports : Option (List ℕ → Option (List ℕ)) → Option Asked → EndKind → Past → Option (List ℕ) → Option (List ℕ) → Type 0
+Reports files None end past old new = Shows (refused refusals.Usage) end past old new
+Reports files (Some form) end past old new =
+    (reading : Reading) × MayRead files (operand_of form) reading × Fits reading × Shows (outcome_of form reading) end past old new

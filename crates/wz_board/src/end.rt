@@ -1,0 +1,107 @@
+// How a command ends.
+ghost use Rattle.std.specs.Prelude.{◌≡◌, string_bytes, IfOk};
+ghost use Rattle.wz_board.specs.Ends.{fault_text, hex_text, kind_text, status_of, IsPlain};
+
+use crate::history::History;
+use ihex::{HexFault, HexKind};
+use std::alloc::{AllocError, Global};
+
+/// Why a command did not do what its words ask.
+#[derive(Clone, Copy, Debug, PartialEq, Eq)]
+pub enum Refusal {
+    /// The words are no written form.
+    Usage,
+    /// There is no file of the operand's name.
+    NoFile,
+    /// The file could not be read.
+    ReadFault,
+    /// The file has more than 67,108,864 bytes.
+    TooLong,
+    /// The text is no Intel HEX image.
+    Hex(HexFault),
+    /// The script asks for something that is not built yet.
+    NotBuilt,
+}
+
+/// How a command ended.
+#[derive(Clone, Copy, Debug, PartialEq, Eq)]
+pub enum EndKind {
+    /// It finished.
+    Done,
+    /// The sink took no more of its text.
+    WriteFault,
+    /// Memory was not there.
+    NoMemory,
+    /// It was refused.
+    Refused(Refusal),
+}
+
+/// What a command leaves.
+#[derive(Drop)]
+pub struct QuickEnd {
+    /// The exit status of the program, 0 to 12.
+    pub status: u8,
+    /// What happened on the chip's bus, empty where the command made no event.
+    pub history: History,
+    /// How the command ended.
+    pub end: EndKind,
+}
+
+/// The exit status of an end.
+pub fn status_of(end: EndKind) -> u8
+    ensures { result ≡ status_of end }
+{
+    match end {
+        EndKind::Done => 0,
+        EndKind::Refused(Refusal::Usage) => 2,
+        EndKind::Refused(Refusal::Hex(_)) => 3,
+        EndKind::Refused(Refusal::NoFile | Refusal::ReadFault) => 5,
+        EndKind::WriteFault => 6,
+        EndKind::NoMemory => 7,
+        EndKind::Refused(Refusal::TooLong) => 11,
+        EndKind::Refused(Refusal::NotBuilt) => 12,
+    }
+}
+
+/// The line that a refusal prints, but for one with values of its own.
+pub fn fault_text(refusal: Refusal) -> &'static str
+    requires { IsPlain refusal }
+    ensures { result.now ≡ fault_text refusal }
+{
+    match refusal {
+        Refusal::Usage => "fault usage\n",
+        Refusal::NoFile => "fault nofile 1\n",
+        Refusal::ReadFault => "fault read 1\n",
+        Refusal::TooLong => "fault long 1\n",
+        Refusal::NotBuilt => "fault not-built\n",
+        Refusal::Hex(_) => unreachable!(),
+    }
+}
+
+fn kind_text(kind: HexKind) -> &'static str
+    ensures { result.now ≡ kind_text kind }
+{
+    match kind {
+        HexKind::AfterEnd => "AfterEnd",
+        HexKind::BadStart => "BadStart",
+        HexKind::BadDigit => "BadDigit",
+        HexKind::BadLength => "BadLength",
+        HexKind::BadSum => "BadSum",
+        HexKind::BadType => "BadType",
+        HexKind::OutOfFlash => "OutOfFlash",
+        HexKind::NoEnd => "NoEnd",
+    }
+}
+
+/// The line that the fault of a text prints.
+///
+/// # Errors
+///
+/// Want of memory alone.
+pub fn hex_text(alloc: Global, fault: HexFault) -> Result<String, AllocError>
+    ensures { IfOk result (λ t. string_bytes t ≡ hex_text fault) }
+{
+    let kind = kind_text(fault.kind);
+    let line = fault.line;
+    format!(in alloc; "fault hex {kind} {line}\n")
+}

@@ -1,0 +1,36 @@
+//! The board runner's program: `bus SCRIPT` runs a bus script against the chip and prints what the chip answers.
+#![tactic(auto)]
+
+mod end;
+mod history;
+mod laws;
+mod listing;
+mod quick;
+mod run;
+mod script;
+mod session;
+#[cfg(test)]
+mod tests;
+mod text;
+mod words;
+
+use std::process::ExitCode;
+use std::{env, io};
+use wz_real::{StdFiles, StdOut};
+
+fn main(rt: HostRuntime) -> ExitCode {
+    // Words that are no text are no written form, as no words are.
+    let words: Vec<String> = match env::args(&rt) {
+        Ok(args) => match args.skip(1).collect(rt.alloc()) {
+            Ok(words) => words,
+            Err(_) => return ExitCode::from(end::status_of(end::EndKind::NoMemory)),
+        },
+        Err(_) => Vec::new(rt.alloc()),
+    };
+    let mut files = StdFiles::new(&rt);
+    let mut out = StdOut::new(io::writer(&rt));
+    match quick::quick(rt.alloc(), &words, &mut files, &mut out) {
+        Some(ended) => ExitCode::from(ended.status),
+        None => unreachable!(),
+    }
+}

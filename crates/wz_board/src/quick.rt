@@ -1,0 +1,226 @@
+//! The top call.
+ghost use Rattle.std.specs.Prelude.{◌≡◌, ◌≢◌, ◌≤◌, ◌⊎◌, [], length, Some, None, Option, List, ℕ, map, string_bytes, IsSome, IfSome, IsErrOf};
+ghost use Rattle.chip_sheet.specs.Legal.{Legal};
+ghost use Rattle.wz_base.specs.Outside.{Rose, RisesOnly};
+ghost use Rattle.wz_base.specs.Whole.{Appends};
+ghost use Rattle.wz_board.specs.Ends.{fault_text, status_of, IsPlain};
+ghost use Rattle.ihex.specs.Text.{fault_in};
+ghost use Rattle.wz_board.specs.Words.{asked, command_of};
+ghost use Rattle.wz_board.specs.Script.{lists, script_lines};
+ghost use Rattle.wz_board.specs.Run.{Run};
+ghost use Rattle.wz_board.specs.Outcome.{refusal_of, refused, lines_outcome, listed_outcome, text_outcome, end_of, IsOwn, Shows, Reports};
+
+use crate::end::{EndKind, QuickEnd, Refusal, fault_text, hex_text, status_of};
+use crate::history::History;
+use crate::listing::list;
+use crate::run::run_lines;
+use crate::script::{ScriptError, script_lines};
+use crate::session::{Halt, Session};
+use crate::words::{Command, command_of, operand_of};
+use chip_sheet::event::BusEvent;
+use chip_sheet::stop::ChipStop;
+use ihex::{HexError, HexFault, load};
+use std::alloc::{AllocError, Global};
+use wz_base::{Files, ReadError, Sink, WriteError, read_whole, write_all};
+
+/// The most bytes of a file that is read.
+pub const TEXT_LIMIT: u64 = 67_108_864;
+
+/// How many events a history is meant to hold. A script of permitted length never has more.
+pub const EVENT_LIMIT: u64 = 33_554_432;
+
+fn ended(end: EndKind, history: History) -> QuickEnd
+    ensures end { result.end ≡ end }
+    ensures past { result.history.past ≡ history.past }
+    ensures status { result.status ≡ status_of end }
+{
+    QuickEnd {
+        status: status_of(end),
+        history,
+        end,
+    }
+}
+
+// Writes the line of a refusal, and ends.
+fn refuse<K: Sink>(refusal: Refusal, history: History, out: &mut K) -> QuickEnd
+    requires { IsPlain refusal }
+    ensures shows { Shows (record { end = EndKind.Refused refusal; past = history.past; text = fault_text refusal }) result.end result.history.past (K.written out.old) (K.written out.new) }
+    ensures past { result.history.past ≡ history.past }
+    ensures status { result.status ≡ status_of result.end }
+    ensures ends { (result.end ≡ EndKind.Refused refusal) ⊎ (result.end ≡ EndKind.WriteFault) }
+    ensures faults { RisesOnly (result.end ≡ EndKind.WriteFault) (K.faults out.old) (K.faults out.new) }
+{
+    let text = fault_text(refusal);
+    match write_all(out, text.as_bytes()) {
+        Ok(()) => ended(EndKind::Refused(refusal), history),
+        Err(WriteError::WriteFault) => ended(EndKind::WriteFault, history),
+    }
+}
+
+// The refusal that a stop of the chip is.
+fn refusal_of(stop: ChipStop) -> Refusal
+    ensures is { result ≡ refusal_of stop }
+    ensures plain { IsPlain result }
+{
+    match stop {
+        ChipStop::NotBuilt => Refusal::NotBuilt,
+    }
+}
+
+// Writes the line of the stop that ended a run.
+fn stop_run<K: Sink>(stop: ChipStop, history: History, out: &mut K) -> QuickEnd
+    ensures shows { (run : Run) (old : Option (List ℕ)) → run.stop ≡ Some stop → history.past ≡ run.past → Appends old run.text (K.written out.old)
+        → Shows (end_of run run.stop) result.end result.history.past old (K.written out.new) }
+    ensures past { result.history.past ≡ history.past }
+    ensures status { result.status ≡ status_of result.end }
+    ensures ends { IsOwn result.end }
+    ensures faults { RisesOnly (result.end ≡ EndKind.WriteFault) (K.faults out.old) (K.faults out.new) }
+{
+    refuse(refusal_of(stop), history, out)
+}
+
+// Runs the lines of a script.
+fn run_script<K: Sink>(alloc: Global, lines: &[Vec<BusEvent>], out: &mut K) -> QuickEnd
+    ensures shows { Shows (lines_outcome (Some (lists lines.now))) result.end result.history.past (K.written out.old) (K.written out.new) }
+    ensures legal { Legal result.history.past }
+    ensures status { result.status ≡ status_of result.end }
+    ensures ends { IsOwn result.end }
+    ensures faults { RisesOnly (result.end ≡ EndKind.WriteFault) (K.faults out.old) (K.faults out.new) }
+{
+    let mut session = Session::new(alloc, EVENT_LIMIT);
+    let ran = run_lines(alloc, &mut session, lines, out);
+    let history = session.into_history();
+    match ran {
+        Ok(()) => ended(EndKind::Done, history),
+        Err(Halt::WriteFault) => ended(EndKind::WriteFault, history),
+        Err(Halt::NoMemory) => ended(EndKind::NoMemory, history),
+        Err(Halt::Stopped(stop)) => stop_run(stop, history, out),
+    }
+}
+
+// Runs the text of a script.
+fn run_text<K: Sink>(alloc: Global, text: &[u8], out: &mut K) -> QuickEnd
+    ensures shows { Shows (lines_outcome (script_lines text.now)) result.end result.history.past (K.written out.old) (K.written out.new) }
+    ensures legal { Legal result.history.past }
+    ensures status { result.status ≡ status_of result.end }
+    ensures ends { IsOwn result.end }
+    ensures faults { RisesOnly (result.end ≡ EndKind.WriteFault) (K.faults out.old) (K.faults out.new) }
+{
+    match script_lines(alloc, text) {
+        Ok(lines) => run_script(alloc, &lines, out),
+        Err(ScriptError::NotBuilt) => {
+            refuse(Refusal::NotBuilt, History::new(alloc, EVENT_LIMIT), out)
+        }
+        Err(ScriptError::NoMemory) => ended(EndKind::NoMemory, History::new(alloc, EVENT_LIMIT)),
+    }
+}
+
+// Writes the line of a text's fault, and ends.
+fn refuse_image<K: Sink>(alloc: Global, fault: HexFault, out: &mut K) -> QuickEnd
+    ensures shows { Shows (refused (Refusal.Hex fault)) result.end result.history.past (K.written out.old) (K.written out.new) }
+    ensures past { result.history.past ≡ [] }
+    ensures status { result.status ≡ status_of result.end }
+    ensures ends { IsOwn result.end }
+    ensures faults { RisesOnly (result.end ≡ EndKind.WriteFault) (K.faults out.old) (K.faults out.new) }
+{
+    let none = History::new(alloc, EVENT_LIMIT);
+    match hex_text(alloc, fault) {
+        Ok(text) => match write_all(out, text.as_bytes()) {
+            Ok(()) => ended(EndKind::Refused(Refusal::Hex(fault)), none),
+            Err(WriteError::WriteFault) => ended(EndKind::WriteFault, none),
+        },
+        Err(AllocError) => ended(EndKind::NoMemory, none),
+    }
+}
+
+// Lists the image of an Intel HEX text.
+fn list_text<K: Sink>(alloc: Global, text: &[u8], out: &mut K) -> QuickEnd
+    requires { length text.now ≤ 67108864 }
+    ensures shows { Shows (listed_outcome text.now (fault_in text.now)) result.end result.history.past (K.written out.old) (K.written out.new) }
+    ensures past { result.history.past ≡ [] }
+    ensures status { result.status ≡ status_of result.end }
+    ensures ends { IsOwn result.end }
+    ensures faults { RisesOnly (result.end ≡ EndKind.WriteFault) (K.faults out.old) (K.faults out.new) }
+{
+    let none = History::new(alloc, EVENT_LIMIT);
+    match load(alloc, text) {
+        Ok(image) => match list(&image, out) {
+            Ok(()) => ended(EndKind::Done, none),
+            Err(WriteError::WriteFault) => ended(EndKind::WriteFault, none),
+        },
+        Err(HexError::Fault(fault)) => refuse_image(alloc, fault, out),
+        Err(HexError::NoMemory) => ended(EndKind::NoMemory, none),
+    }
+}
+
+// Does what a command asks with the text of its operand.
+fn on_text<K: Sink>(alloc: Global, command: &Command<'_>, text: &[u8], out: &mut K) -> QuickEnd
+    requires { length text.now ≤ 67108864 }
+    ensures shows { Shows (text_outcome (asked command.now) text.now) result.end result.history.past (K.written out.old) (K.written out.new) }
+    ensures legal { Legal result.history.past }
+    ensures status { result.status ≡ status_of result.end }
+    ensures ends { IsOwn result.end }
+    ensures faults { RisesOnly (result.end ≡ EndKind.WriteFault) (K.faults out.old) (K.faults out.new) }
+{
+    match command {
+        Command::Bus { .. } => run_text(alloc, text, out),
+        Command::List { .. } => list_text(alloc, text, out),
+    }
+}
+
+// Reads the operand of a command, and does what it asks.
+fn run_command<F: Files, K: Sink>(
+    alloc: Global,
+    command: &Command<'_>,
+    files: &mut F,
+    out: &mut K,
+) -> QuickEnd
+    ensures reports { Reports (F.held files.old) (Some (asked command.now)) result.end result.history.past (K.written out.old) (K.written out.new) }
+    ensures legal { Legal result.history.past }
+    ensures status { result.status ≡ status_of result.end }
+    ensures usage { result.end ≢ EndKind.Refused Refusal.Usage }
+    ensures misses { (result.end ≡ EndKind.Refused Refusal.NoFile) → Rose (F.misses files.old) (F.misses files.new) }
+    ensures read_faults { (result.end ≡ EndKind.Refused Refusal.ReadFault) → Rose (F.faults files.old) (F.faults files.new) }
+    ensures faults { RisesOnly (result.end ≡ EndKind.WriteFault) (K.faults out.old) (K.faults out.new) }
+{
+    let none = History::new(alloc, EVENT_LIMIT);
+    match read_whole(alloc, files, operand_of(command), TEXT_LIMIT) {
+        Ok(text) => on_text(alloc, command, &text, out),
+        Err(ReadError::NoFile) => refuse(Refusal::NoFile, none, out),
+        Err(ReadError::ReadFault) => refuse(Refusal::ReadFault, none, out),
+        Err(ReadError::TooLong) => refuse(Refusal::TooLong, none, out),
+        Err(ReadError::NoMemory) => ended(EndKind::NoMemory, none),
+    }
+}
+
+/// Does what the words ask, those after the program's name. It answers `Some` always: every command that is built returns.
+///
+/// # Ends
+///
+/// `Usage` exactly where the words are no written form. `NoFile`, `ReadFault` and `TooLong` of the operand, each by its cause.
+/// `NotBuilt` exactly where a token of the script is of another form, before anything runs, or where an event has the chip's
+/// stop of that name. `WriteFault` only where the sink's count of faults rose; then what was written is a front of the
+/// text, and the history a front of the whole history. `NoMemory` may come at any time, with the same kept.
+pub fn quick<F: Files, K: Sink>(
+    alloc: Global,
+    words: &[String],
+    files: &mut F,
+    out: &mut K,
+) -> Option<QuickEnd>
+    ensures answers { IsSome result }
+    ensures reports { IfSome result (λ r. Reports (F.held files.old) (command_of (map string_bytes words.now)) r.end r.history.past (K.written out.old) (K.written out.new)) }
+    ensures legal { IfSome result (λ r. Legal r.history.past) }
+    ensures status { IfSome result (λ r. r.status ≡ status_of r.end) }
+
+    // Each answer that is not of the text has its cause.
+    ensures usage { IfSome result (λ r. r.end ≡ EndKind.Refused Refusal.Usage → command_of (map string_bytes words.now) ≡ None) }
+    ensures no_form { IfSome result (λ r. command_of (map string_bytes words.now) ≡ None → (r.end ≡ EndKind.Refused Refusal.Usage) ⊎ (r.end ≡ EndKind.WriteFault)) }
+    ensures misses { IfSome result (λ r. r.end ≡ EndKind.Refused Refusal.NoFile → Rose (F.misses files.old) (F.misses files.new)) }
+    ensures read_faults { IfSome result (λ r. r.end ≡ EndKind.Refused Refusal.ReadFault → Rose (F.faults files.old) (F.faults files.new)) }
+    ensures write_faults { IfSome result (λ r. r.end ≡ EndKind.WriteFault → Rose (K.faults out.old) (K.faults out.new)) }
+{
+    Some(match command_of(words) {
+        None => refuse(Refusal::Usage, History::new(alloc, EVENT_LIMIT), out),
+        Some(command) => run_command(alloc, &command, files, out),
+    })
+}
