@@ -1,0 +1,6 @@
+mod Digits
+mod FirstLine
+mod OneRecord
+mod OneLine
+mod Rows
+mod Texts
