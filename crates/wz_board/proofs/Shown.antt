@@ -10,11 +10,8 @@ use Rattle.wz_board.specs.declared.end.EndKind.TheVariants.{Done, WriteFault, No
 use Rattle.wz_board.specs.Ends.{fault_text}
 use Rattle.wz_board.specs.Run.{Run}
 use Rattle.wz_board.specs.Outcome.{Outcome, end_of, refusal_of, Shows, IsCut}
+use Rattle.wz_board.proofs.Fronts.{front_then}
 use Rattle.wz_board.proofs.Runs.{Appends-then, Appends-none}
-
-front_then : (old mid new : Option (List ℕ)) (a b : List ℕ) → Appends old a mid → AppendsFront mid b new → AppendsFront old (a ++ b) new
-front_then old mid new a b written front =
-    (length a + front.0, rw length-append (omega (arith, front.1)), rw take-append-add (Appends-then old mid new a (take front.0 b) written front.2))
 
 shown : (run : Run) (s : ChipStop) (end : EndKind) (past past' : Past) (old mid new : Option (List ℕ)) → past ≡ run.past → Appends old run.text mid
     → Shows (record { end = Refused (refusal_of s); past = past; text = fault_text (refusal_of s) }) end past' mid new → Shows (end_of run (Some s)) end past' old new

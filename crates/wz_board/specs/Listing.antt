@@ -1,5 +1,5 @@
 -- The listing of a flash image: a line for each instruction, from word 0 to the last word other than FFFF.
-use Rattle.std.specs.Prelude.{ℕ, zero, suc, ◌+◌, ◌/◌, ◌%◌, ◌==◌, nat_lt, List, [], ◌∷◌, ◌++◌, codes, Result, Ok, Err, if◌then◌else◌}
+use Rattle.std.specs.Prelude.{◌≡◌, ◌≢◌, ◌<◌, ◌≤◌, ◌-◌, ℕ, zero, suc, ◌+◌, ◌/◌, ◌%◌, ◌==◌, nat_lt, List, [], ◌∷◌, ◌++◌, codes, Result, Ok, Err, if◌then◌else◌}
 use Rattle.ihex.specs.Image.{word_at}
 use Rattle.avr_table.specs.declared.instr.Instr.{Instr}
 use Rattle.avr_table.specs.declared.fault.DecodeFault.{DecodeFault}
@@ -24,6 +24,16 @@ used_below image (suc n) = if word_at image n == 0xFFFF then used_below image n 
 -- The number of words up to the last one other than FFFF.
 unfoldable pub used : List ℕ → ℕ
 used image = used_below image 16384
+
+-- The listing ends here: the word before it is not FFFF, and each word of flash from it on is.
+pub record IsEnd (image : List ℕ) (words n : ℕ) : Type 0 where
+  pub within : n ≤ words
+  pub last : 0 < n → word_at image (n - 1) ≢ 0xFFFF
+  pub erased : (at : ℕ) → n ≤ at → at < words → word_at image at ≡ 0xFFFF
+
+-- The listing ends behind the last word of flash other than FFFF.
+abbrev pub EndsBehindTheLastWord : Type 0
+EndsBehindTheLastWord = (image : List ℕ) → IsEnd image 16384 (used image)
 
 -- What the word at a place says.
 unfoldable pub said_at : List ℕ → ℕ → Result Instr DecodeFault
