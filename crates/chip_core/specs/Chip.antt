@@ -2,10 +2,10 @@
 use Rattle.std.specs.Prelude.{◌≡◌, ◌⊎◌, Option, Some, None, ◌∷◌}
 use Rattle.chip_sheet.specs.declared.event.BusEvent.{BusEvent}
 use Rattle.chip_sheet.specs.declared.event.BusAnswer.{BusAnswer}
-use Rattle.chip_sheet.specs.declared.stop.ChipStop.{ChipStop}
+use Rattle.chip_sheet.specs.declared.stop.Unbuilt.{Unbuilt}
 use Rattle.chip_sheet.specs.Past.{Past, Bus}
-use Rattle.chip_sheet.specs.Answers.{answer}
-use Rattle.chip_sheet.specs.Stops.{stop}
+use Rattle.chip_sheet.specs.BuiltAnswers.{built_answer}
+use Rattle.chip_sheet.specs.BuiltStops.{unbuilt}
 use Rattle.chip_core.specs.declared.chip.Chip.{Chip}
 use Rattle.chip_core.specs.Framer.{framer_of}
 use Rattle.chip_core.specs.CommonRegs.{Holds}
@@ -16,19 +16,19 @@ pub record Stands (chip : Chip) (past : Past) : Type 0 where
   pub registers : Holds chip.registers past
 
 -- The stop that the chip has answered, if it has.
-abbrev pub stop_kept : Chip → Option ChipStop
+abbrev pub stop_kept : Chip → Option Unbuilt
 stop_kept chip = chip.stopped
 
 -- The event has no stop, the chip gives its answer, and stands for the past with this event.
 pub record Answered (old : Chip) (past : Past) (e : BusEvent) (a : BusAnswer) (new : Chip) : Type 0 where
   pub unstopped : stop_kept old ≡ None
-  pub allowed : stop past e ≡ None
-  pub is : a ≡ answer past e
+  pub allowed : unbuilt past e ≡ None
+  pub is : a ≡ built_answer past e
   pub stands : Stands new (Bus e a ∷ past)
   pub goes_on : stop_kept new ≡ None
 
 -- The chip gives this stop: one that it kept, or that of the event. Nothing but the kept stop changes.
-pub record Stopped (old : Chip) (past : Past) (e : BusEvent) (s : ChipStop) (new : Chip) : Type 0 where
-  pub cause : (stop_kept old ≡ Some s) ⊎ ((stop_kept old ≡ None) × (stop past e ≡ Some s))
+pub record Stopped (old : Chip) (past : Past) (e : BusEvent) (s : Unbuilt) (new : Chip) : Type 0 where
+  pub cause : (stop_kept old ≡ Some s) ⊎ ((stop_kept old ≡ None) × (unbuilt past e ≡ Some s))
   pub same : new ≡ record old { stopped = Some s }
   pub stands : Stands new past

@@ -4,17 +4,17 @@ ghost use Rattle.chip_sheet.specs.Answers.{idle_byte};
 ghost use Rattle.chip_sheet.specs.declared.event.BusEvent.TheVariants.{Byte};
 
 use crate::common_regs::CommonRegs;
-use crate::exchange::{access_in, exchange, stop_of};
+use crate::exchange::{access_in, exchange, unbuilt_of};
 use crate::framer::Framer;
 use chip_sheet::event::{BusAnswer, BusEvent};
-use chip_sheet::stop::ChipStop;
+use chip_sheet::stop::Unbuilt;
 
 /// The chip. At each moment it stands for what happened on its bus.
 #[derive(Clone, Copy, Debug)]
 pub struct Chip {
     framer: Framer,
     registers: CommonRegs,
-    stopped: Option<ChipStop>,
+    stopped: Option<Unbuilt>,
 }
 
 impl Chip {
@@ -33,7 +33,7 @@ impl Chip {
     }
 
     /// The stop that was answered, if one was.
-    pub fn stopped(&self) -> Option<ChipStop>
+    pub fn stopped(&self) -> Option<Unbuilt>
         ensures { result ≡ stop_kept self.now }
     {
         self.stopped
@@ -44,7 +44,7 @@ impl Chip {
     /// # Errors
     ///
     /// The stop of the event where it has one, and the same stop from then on. All but the kept stop is as before.
-    pub fn bus(&mut self, e: BusEvent) -> Result<BusAnswer, ChipStop>
+    pub fn bus(&mut self, e: BusEvent) -> Result<BusAnswer, Unbuilt>
         ensures answered { IfOk result (λ a. (past : Past) → Stands self.old past → Answered self.old past e a self.new) }
         ensures stopped { IfErr result (λ s. (past : Past) → Stands self.old past → Stopped self.old past e s self.new) }
     {
@@ -69,7 +69,7 @@ impl Chip {
     }
 
     // Takes a byte, while no stop is kept.
-    fn byte(&mut self, v: u8) -> Result<BusAnswer, ChipStop>
+    fn byte(&mut self, v: u8) -> Result<BusAnswer, Unbuilt>
         requires { stop_kept self.old ≡ None }
         ensures answered { IfOk result (λ a. (past : Past) → Stands self.old past → Answered self.old past (Byte v) a self.new) }
         ensures stopped { IfErr result (λ s. (past : Past) → Stands self.old past → Stopped self.old past (Byte v) s self.new) }
@@ -77,7 +77,7 @@ impl Chip {
         let idle = self.idle_byte();
         let mut framer = self.framer;
         let made = access_in(framer.byte(v), v);
-        if let Some(stop) = stop_of(made) {
+        if let Some(stop) = unbuilt_of(made) {
             self.stopped = Some(stop);
             return Err(stop);
         }

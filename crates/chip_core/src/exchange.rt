@@ -2,15 +2,16 @@
 ghost use Rattle.std.specs.Prelude.{◌≡◌, ◌∷◌, None};
 ghost use Rattle.chip_sheet.specs.Past.{Past, Bus};
 ghost use Rattle.chip_sheet.specs.Frames.{access, access_in};
-ghost use Rattle.chip_sheet.specs.Answers.{byte_out, idle_byte};
-ghost use Rattle.chip_sheet.specs.Stops.{stop_of};
+ghost use Rattle.chip_sheet.specs.Answers.{idle_byte};
+ghost use Rattle.chip_sheet.specs.BuiltAnswers.{built_byte};
+ghost use Rattle.chip_sheet.specs.BuiltStops.{unbuilt_of};
 ghost use Rattle.chip_sheet.specs.declared.event.BusAnswer.{BusAnswer};
 ghost use Rattle.chip_sheet.specs.declared.event.BusEvent.{BusEvent};
 ghost use Rattle.chip_core.specs.CommonRegs.{Holds};
 
 use crate::common_regs::CommonRegs;
 use chip_sheet::phase::{Access, Phase};
-use chip_sheet::stop::ChipStop;
+use chip_sheet::stop::Unbuilt;
 
 /// What a byte does where it stands at this phase.
 pub fn access_in(phase: Phase, v: u8) -> Access
@@ -36,23 +37,23 @@ pub fn access_in(phase: Phase, v: u8) -> Access
 }
 
 /// The stop of an access, if it has one.
-pub fn stop_of(access: Access) -> Option<ChipStop>
-    ensures { result ≡ stop_of access }
+pub fn unbuilt_of(access: Access) -> Option<Unbuilt>
+    ensures { result ≡ unbuilt_of access }
 {
     match access {
         Access::NoAccess => None,
-        Access::Read { block, .. } => (block != 0).then_some(ChipStop::NotBuilt),
+        Access::Read { block, .. } => (block != 0).then_some(Unbuilt::NotBuilt),
         Access::Write { block, addr, value } => {
             let pppoe = addr == 0 && value < 128 && value / 8 % 2 == 1;
-            (block != 0 || pppoe).then_some(ChipStop::NotBuilt)
+            (block != 0 || pppoe).then_some(Unbuilt::NotBuilt)
         }
     }
 }
 
 /// Makes an access of the common register block, and answers the byte on MISO; `idle` is that of a byte with no access.
 pub fn exchange(registers: &mut CommonRegs, made: Access, idle: u8) -> u8
-    requires { stop_of made ≡ None }
-    ensures out { (past : Past) → Holds registers.old past → idle ≡ idle_byte past → result ≡ byte_out past made }
+    requires { unbuilt_of made ≡ None }
+    ensures out { (past : Past) → Holds registers.old past → idle ≡ idle_byte past → result ≡ built_byte past made }
     ensures after { (past : Past) (e : BusEvent) (a : BusAnswer) → access past e ≡ made
         → Holds registers.old past → Holds registers.new (Bus e a ∷ past) }
 {

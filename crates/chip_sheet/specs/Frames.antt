@@ -8,7 +8,7 @@ use Rattle.chip_sheet.specs.declared.phase.Access.{Access}
 use Rattle.chip_sheet.specs.declared.phase.Access.TheVariants.{NoAccess, Read, Write}
 use Rattle.chip_sheet.specs.declared.phase.Phase.{Phase}
 use Rattle.chip_sheet.specs.declared.phase.Phase.TheVariants.{Idle, Address, Control, Body}
-use Rattle.chip_sheet.specs.Past.{Past, Bus}
+use Rattle.chip_sheet.specs.Past.{Past, Entry, Bus, Link, Rest}
 
 -- The select line is low exactly where the last change of it says so. It starts high.
 abbrev pub is_low : Past → Bool
@@ -16,6 +16,8 @@ is_low [] = false
 is_low (Bus (Select low) a ∷ past) = low
 is_low (Bus (Byte v) a ∷ past) = is_low past
 is_low (Bus Look a ∷ past) = is_low past
+is_low (Link n what ∷ past) = is_low past
+is_low (Rest ∷ past) = is_low past
 
 -- The bytes from the host since the select line last fell, in order. Setting the line to the level that it has already
 -- changes nothing.
@@ -24,6 +26,8 @@ bytes_in [] = []
 bytes_in (Bus (Select low) a ∷ past) = if is_low past then bytes_in past else []
 bytes_in (Bus (Byte v) a ∷ past) = bytes_in past ++ v ∷ []
 bytes_in (Bus Look a ∷ past) = bytes_in past
+bytes_in (Link n what ∷ past) = bytes_in past
+bytes_in (Rest ∷ past) = bytes_in past
 
 -- How many data bytes a frame of this control byte has (datasheet, 2.2.2 control phase, operation mode bits): 1, 2 or 4
 -- in the fixed length modes; 0 stands for the variable length mode, in which the frame goes on until the line rises.
@@ -74,3 +78,9 @@ abbrev pub access : Past → BusEvent → Access
 access past (Select low) = NoAccess
 access past (Byte v) = access_in (phase past) v
 access past Look = NoAccess
+
+-- What an entry did to a register or a buffer.
+abbrev pub access_of : Past → Entry → Access
+access_of past (Bus e a) = access past e
+access_of past (Link n what) = NoAccess
+access_of past Rest = NoAccess

@@ -3,8 +3,8 @@ use Rattle.std.specs.Prelude.{ℕ, ◌+◌, ◌*◌, ◌/◌, Bool, false, ◌==
 use Rattle.std.specs.Option.{option_or}
 use Rattle.chip_sheet.specs.declared.phase.Access.{Access}
 use Rattle.chip_sheet.specs.declared.phase.Access.TheVariants.{NoAccess, Read, Write}
-use Rattle.chip_sheet.specs.Past.{Past, Bus}
-use Rattle.chip_sheet.specs.Frames.{access}
+use Rattle.chip_sheet.specs.Past.{Past}
+use Rattle.chip_sheet.specs.Frames.{access_of}
 use Rattle.chip_sheet.specs.CommonBlock.{Rule, Stored, ReadOnly, LinkUp, Place, common_place}
 
 -- A write of the mode register MR with bit 7 resets the chip (datasheet, 4.1 MR, RST).
@@ -28,8 +28,8 @@ written_after made earlier block at =
 -- the frame in progress as it is (this profile's own).
 abbrev pub last_written : Past → ℕ → ℕ → Option ℕ
 last_written [] block at = None
-last_written (Bus e a ∷ past) block at =
-    written_after (access past e) (last_written past block at) block at
+last_written (entry ∷ past) block at =
+    written_after (access_of past entry) (last_written past block at) block at
 
 -- What a place shows, by its rule, where this was last written to it, and where it has this reset value.
 abbrev pub shown_by : Rule → ℕ → ℕ → ℕ
@@ -41,6 +41,6 @@ shown_by LinkUp reset v = v / 8 * 8 + 7
 abbrev pub shown : Place → Option ℕ → ℕ
 shown place written = shown_by place.rule place.reset (unwrap_or written place.reset)
 
--- What an address of the common register block reads.
+-- What an address of the common register block reads, while no socket asks for an interrupt.
 abbrev pub common_register : Past → ℕ → ℕ
 common_register past at = shown (common_place at) (last_written past 0 at)

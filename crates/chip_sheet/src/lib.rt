@@ -4,8 +4,13 @@
 //! event. Every contract of the chip cites them.
 #![tactic(auto)]
 
+pub mod block;
+pub mod built_laws;
 pub mod event;
 pub mod examples;
 pub mod laws;
 pub mod phase;
+pub mod socket;
+pub mod socket_examples;
+pub mod socket_laws;
 pub mod stop;

@@ -1,15 +1,15 @@
 -- The events of a run, up to the first stop.
 use Rattle.std.proofs.Common.{◌≡◌, List, [], ◌∷◌, ◌++◌, Option, None, Some, refl, sym, ap, ◌∙◌, append_assoc, append-nil}
 use Rattle.chip_sheet.specs.declared.event.BusEvent.{BusEvent}
-use Rattle.chip_sheet.specs.declared.stop.ChipStop.{ChipStop}
+use Rattle.chip_sheet.specs.declared.stop.Unbuilt.{Unbuilt}
 use Rattle.chip_sheet.specs.Past.{Past}
-use Rattle.chip_sheet.specs.Answers.{answer}
-use Rattle.chip_sheet.specs.Stops.{stop}
-use Rattle.chip_sheet.specs.Replay.{answered}
+use Rattle.chip_sheet.specs.BuiltAnswers.{built_answer}
+use Rattle.chip_sheet.specs.BuiltStops.{unbuilt}
+use Rattle.chip_sheet.specs.BuiltAnswers.{answered}
 use Rattle.wz_board.specs.Run.{Line, line_after, before, above, Run, run_after, RanUpTo, events_in, all_events, RunsTheEvents}
 
-event_ran : (past : Past) (e : BusEvent) (es : List BusEvent) (o : Option ChipStop) (rest : Line) → stop past e ≡ o → RanUpTo (answered past e) es rest.past rest.stop
-    → RanUpTo past (e ∷ es) (before past (answer past e) o rest).past (before past (answer past e) o rest).stop
+event_ran : (past : Past) (e : BusEvent) (es : List BusEvent) (o : Option Unbuilt) (rest : Line) → unbuilt past e ≡ o → RanUpTo (answered past e) es rest.past rest.stop
+    → RanUpTo past (e ∷ es) (before past (built_answer past e) o rest).past (before past (built_answer past e) o rest).stop
 event_ran past e es None rest h ran = record {
   done = e ∷ ran.done;
   left = ran.left;
@@ -27,9 +27,9 @@ event_ran past e es (Some s) rest h ran = record {
 
 line_ran : (past : Past) (es : List BusEvent) → RanUpTo past es (line_after past es).past (line_after past es).stop
 line_ran past [] = record { done = []; left = []; parts = refl; happened = sym (append-nil (events_in past)); ends = refl }
-line_ran past (e ∷ es) = event_ran past e es (stop past e) (line_after (answered past e) es) refl (line_ran (answered past e) es)
+line_ran past (e ∷ es) = event_ran past e es (unbuilt past e) (line_after (answered past e) es) refl (line_ran (answered past e) es)
 
-lines_ran : (past : Past) (es more : List BusEvent) (l : Line) (o : Option ChipStop) (rest : Run) → RanUpTo past es l.past o → RanUpTo l.past more rest.past rest.stop
+lines_ran : (past : Past) (es more : List BusEvent) (l : Line) (o : Option Unbuilt) (rest : Run) → RanUpTo past es l.past o → RanUpTo l.past more rest.past rest.stop
     → RanUpTo past (es ++ more) (above l o rest).past (above l o rest).stop
 lines_ran past es more l None rest first ran = record {
   done = first.done ++ ran.done;

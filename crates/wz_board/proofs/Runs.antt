@@ -7,11 +7,11 @@ use Rattle.wz_board.specs.Script.{lists}
 use Rattle.std.proofs.Common.{arith, add-one, take, ◌+◌, ◌≤◌, ◌≡◌, ℕ, suc, ◌<◌, length, get_or, drop, drop-cons, append-nil, List, [], ◌∷◌, ◌++◌, Option, None, Some, Ok, Err, refl, ap, sym, ◌∙◌, append_assoc}
 use Rattle.chip_sheet.specs.declared.event.BusEvent.{BusEvent}
 use Rattle.chip_sheet.specs.declared.event.BusAnswer.{BusAnswer}
-use Rattle.chip_sheet.specs.declared.stop.ChipStop.{ChipStop}
+use Rattle.chip_sheet.specs.declared.stop.Unbuilt.{Unbuilt}
 use Rattle.chip_sheet.specs.Past.{Past, Bus, GoesOn}
-use Rattle.chip_sheet.specs.Answers.{answer}
-use Rattle.chip_sheet.specs.Stops.{stop}
-use Rattle.chip_sheet.specs.Replay.{answered}
+use Rattle.chip_sheet.specs.BuiltAnswers.{built_answer}
+use Rattle.chip_sheet.specs.BuiltStops.{unbuilt}
+use Rattle.chip_sheet.specs.BuiltAnswers.{answered}
 use Rattle.wz_board.specs.declared.session.Halt.{Halt}
 use Rattle.wz_board.specs.declared.session.Halt.TheVariants.{Stopped, WriteFault, NoMemory}
 use Rattle.wz_base.specs.Whole.{Appends, AppendsFront}
@@ -26,7 +26,7 @@ behind answers line = record { past = line.past; answers = answers ++ line.answe
 goes_on_one : (past : Past) (e : BusEvent) (a : BusAnswer) (newer : Past) → GoesOn (Bus e a ∷ past) newer → GoesOn past newer
 goes_on_one past e a newer h = (h.0 ++ Bus e a ∷ [], h.1 ∙ sym (append_assoc h.0 (Bus e a ∷ []) past))
 
-line_choice : (past : Past) (a : BusAnswer) (o : Option ChipStop) (line : Line) → GoesOn past line.past → GoesOn past (before past a o line).past
+line_choice : (past : Past) (a : BusAnswer) (o : Option Unbuilt) (line : Line) → GoesOn past line.past → GoesOn past (before past a o line).past
 line_choice past a None line h = h
 line_choice past a (Some s) line h = ([], refl)
 
@@ -34,11 +34,11 @@ line_choice past a (Some s) line h = ([], refl)
 pub line_goes_on : (past : Past) (es : List BusEvent) → GoesOn past (line_after past es).past
 line_goes_on past [] = ([], refl)
 line_goes_on past (e ∷ es) =
-    line_choice past (answer past e) (stop past e) _ (goes_on_one past e (answer past e) _ (line_goes_on (answered past e) es))
+    line_choice past (built_answer past e) (unbuilt past e) _ (goes_on_one past e (built_answer past e) _ (line_goes_on (answered past e) es))
 
 -- an event with a stop ends the line
-line_stops : (past : Past) (e : BusEvent) (es : List BusEvent) (s : ChipStop) → stop past e ≡ Some s → line_after past (e ∷ es) ≡ record { past = past; answers = []; stop = Some s }
-line_stops past e es s h = ap (λ o. before past (answer past e) o (line_after (answered past e) es)) h
+line_stops : (past : Past) (e : BusEvent) (es : List BusEvent) (s : Unbuilt) → unbuilt past e ≡ Some s → line_after past (e ∷ es) ≡ record { past = past; answers = []; stop = Some s }
+line_stops past e es s h = ap (λ o. before past (built_answer past e) o (line_after (answered past e) es)) h
 
 -- a step with no answer ends the line
 halts_at : (whole : Line) (answers : List BusAnswer) (past : Past) (e : BusEvent) (es : List BusEvent) (halt : Halt) → Halts past e halt
@@ -80,7 +80,7 @@ run_on : (past : Past) (line : List BusEvent) (ls : List (List BusEvent)) → (l
 run_on past line ls h = ap (λ o. above (line_after past line) o (run_after (line_after past line).past ls)) h
 
 -- a line with a stop
-run_stops : (past : Past) (line : List BusEvent) (ls : List (List BusEvent)) (s : ChipStop) → (line_after past line).stop ≡ Some s
+run_stops : (past : Past) (line : List BusEvent) (ls : List (List BusEvent)) (s : Unbuilt) → (line_after past line).stop ≡ Some s
     → run_after past (line ∷ ls) ≡ record { past = (line_after past line).past; text = line_text (line_after past line).answers; stop = Some s }
 run_stops past line ls s h = ap (λ o. above (line_after past line) o (run_after (line_after past line).past ls)) h
 
@@ -96,7 +96,7 @@ lines_more whole line ls past past' old mid new u gives far = record {
   so_far = rw gives.1 (sym (run_behind-append far.done (line_text (line_after past line).answers) (run_after (line_after past line).past ls)) ∙ ap (run_behind far.done) (sym (run_on past line ls gives.0)) ∙ far.so_far);
 }
 
-run_choice : (past : Past) (l : Line) (o : Option ChipStop) (rest : Run) → GoesOn past l.past → GoesOn l.past rest.past → GoesOn past (above l o rest).past
+run_choice : (past : Past) (l : Line) (o : Option Unbuilt) (rest : Run) → GoesOn past l.past → GoesOn l.past rest.past → GoesOn past (above l o rest).past
 run_choice past l None rest h k = (k.0 ++ h.0, k.1 ∙ ap (λ p. k.0 ++ p) h.1 ∙ sym (append_assoc k.0 h.0 past))
 run_choice past l (Some s) rest h k = h
 
@@ -113,7 +113,7 @@ record Begins (l : Line) (run : Run) : Type 0 where
   more : List ℕ
   text : run.text ≡ line_text l.answers ++ more
 
-begins : (l : Line) (o : Option ChipStop) (rest : Run) → GoesOn l.past rest.past → Begins l (above l o rest)
+begins : (l : Line) (o : Option Unbuilt) (rest : Run) → GoesOn l.past rest.past → Begins l (above l o rest)
 begins l None rest h = record { past = h; more = rest.text; text = refl }
 begins l (Some s) rest h = record { past = ([], refl); more = []; text = sym (append-nil (line_text l.answers)) }
 

@@ -1,7 +1,7 @@
 -- A history as contracts see it.
 use Rattle.std.specs.Prelude.{ℕ, List, map, reverse}
-use Rattle.chip_sheet.specs.declared.event.Event.{Event}
-use Rattle.chip_sheet.specs.Past.{Past, entry_of}
+use Rattle.chip_sheet.specs.Past.{Past, Entry, Bus}
+use Rattle.wz_board.specs.declared.history.Exchange.{Exchange}
 
 pub record Log : Type 0 where
   -- what happened, the newest first
@@ -11,6 +11,10 @@ pub record Log : Type 0 where
   -- how many events it is meant to hold
   pub limit : ℕ
 
+-- The entry that an event with its answer stands for.
+abbrev pub entry_of : Exchange → Entry
+entry_of x = Bus x.event x.answer
+
 -- What these events, the oldest first, leave as the past.
-abbrev pub past_of : List Event → Past
+abbrev pub past_of : List Exchange → Past
 past_of events = reverse (map entry_of events)

@@ -1,8 +1,8 @@
 -- What a command comes to.
 use Rattle.std.specs.Prelude.{◌≡◌, ◌<◌, ◌≤◌, ℕ, List, [], ◌++◌, length, Option, None, Some, IfSome, IsSomeAnd}
 use Rattle.chip_sheet.specs.declared.event.BusEvent.{BusEvent}
-use Rattle.chip_sheet.specs.declared.stop.ChipStop.{ChipStop}
-use Rattle.chip_sheet.specs.declared.stop.ChipStop.TheVariants as stops
+use Rattle.chip_sheet.specs.declared.stop.Unbuilt.{Unbuilt}
+use Rattle.chip_sheet.specs.declared.stop.Unbuilt.TheVariants as stops
 use Rattle.chip_sheet.specs.Past.{Past, GoesOn}
 use Rattle.wz_base.specs.Whole.{Appends, AppendsFront}
 use Rattle.wz_board.specs.declared.end.Refusal.{Refusal}
@@ -31,11 +31,11 @@ abbrev pub refused : Refusal → Outcome
 refused r = record { end = Refused r; past = []; text = fault_text r }
 
 -- The refusal that a stop of the chip is.
-abbrev pub refusal_of : ChipStop → Refusal
+abbrev pub refusal_of : Unbuilt → Refusal
 refusal_of stops.NotBuilt = refusals.NotBuilt
 
 -- What a run that ended with this stop, if with one, comes to: its text, and then the line of the stop.
-abbrev pub end_of : Run → Option ChipStop → Outcome
+abbrev pub end_of : Run → Option Unbuilt → Outcome
 end_of run None = record { end = Done; past = run.past; text = run.text }
 end_of run (Some s) =
     record { end = Refused (refusal_of s); past = run.past; text = run.text ++ fault_text (refusal_of s) }

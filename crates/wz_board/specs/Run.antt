@@ -2,11 +2,11 @@
 use Rattle.std.specs.Prelude.{◌≡◌, ℕ, List, [], ◌∷◌, ◌++◌, Option, None, Some, Result, Ok, Err}
 use Rattle.chip_sheet.specs.declared.event.BusEvent.{BusEvent}
 use Rattle.chip_sheet.specs.declared.event.BusAnswer.{BusAnswer}
-use Rattle.chip_sheet.specs.declared.stop.ChipStop.{ChipStop}
-use Rattle.chip_sheet.specs.Past.{Past, Bus, GoesOn}
-use Rattle.chip_sheet.specs.Answers.{answer}
-use Rattle.chip_sheet.specs.Stops.{stop}
-use Rattle.chip_sheet.specs.Replay.{answered}
+use Rattle.chip_sheet.specs.declared.stop.Unbuilt.{Unbuilt}
+use Rattle.chip_sheet.specs.Past.{Past, Bus, Link, Rest, GoesOn}
+use Rattle.chip_sheet.specs.BuiltAnswers.{built_answer}
+use Rattle.chip_sheet.specs.BuiltStops.{unbuilt}
+use Rattle.chip_sheet.specs.BuiltAnswers.{answered}
 use Rattle.wz_base.specs.Whole.{Appends, AppendsFront}
 use Rattle.wz_board.specs.declared.session.Halt.{Halt}
 use Rattle.wz_board.specs.declared.session.Halt.TheVariants.{Stopped, WriteFault, NoMemory}
@@ -19,10 +19,10 @@ pub record Line : Type 0 where
   -- its answers
   pub answers : List BusAnswer
   -- the stop that ended it, if one did
-  pub stop : Option ChipStop
+  pub stop : Option Unbuilt
 
 -- An event that has a stop ends the line; else its answer goes before the rest.
-abbrev pub before : Past → BusAnswer → Option ChipStop → Line → Line
+abbrev pub before : Past → BusAnswer → Option Unbuilt → Line → Line
 before past a None rest = record { past = rest.past; answers = a ∷ rest.answers; stop = rest.stop }
 before past a (Some s) rest = record { past = past; answers = []; stop = Some s }
 
@@ -30,7 +30,7 @@ before past a (Some s) rest = record { past = past; answers = []; stop = Some s 
 abbrev pub line_after : Past → List BusEvent → Line
 line_after past [] = record { past = past; answers = []; stop = None }
 line_after past (e ∷ es) =
-    before past (answer past e) (stop past e) (line_after (answered past e) es)
+    before past (built_answer past e) (unbuilt past e) (line_after (answered past e) es)
 
 -- What a script comes to.
 pub record Run : Type 0 where
@@ -39,10 +39,10 @@ pub record Run : Type 0 where
   -- what it prints of the answers
   pub text : List ℕ
   -- the stop that ended it, if one did
-  pub stop : Option ChipStop
+  pub stop : Option Unbuilt
 
 -- A line that stops is the last; else its text goes before the rest.
-abbrev pub above : Line → Option ChipStop → Run → Run
+abbrev pub above : Line → Option Unbuilt → Run → Run
 above line None rest =
     record { past = rest.past; text = line_text line.answers ++ rest.text; stop = rest.stop }
 above line (Some s) rest =
@@ -86,6 +86,8 @@ GivesText line (Err NoMemory) past old new = GoesOn past line.past × (new ≡ o
 abbrev pub events_in : Past → List BusEvent
 events_in [] = []
 events_in (Bus e a ∷ past) = events_in past ++ e ∷ []
+events_in (Link n what ∷ past) = events_in past
+events_in (Rest ∷ past) = events_in past
 
 -- The events of all lines, in order.
 abbrev pub all_events : List (List BusEvent) → List BusEvent
@@ -93,13 +95,13 @@ all_events [] = []
 all_events (line ∷ lines) = line ++ all_events lines
 
 -- What is left of the events at the end: nothing, or those from the one on whose stop ended the run.
-abbrev pub EndsAt : List BusEvent → Past → Option ChipStop → Type 0
+abbrev pub EndsAt : List BusEvent → Past → Option Unbuilt → Type 0
 EndsAt left after None = left ≡ []
 EndsAt left after (Some s) =
-    (e : BusEvent) × (more : List BusEvent) × (left ≡ e ∷ more) × (stop after e ≡ Some s)
+    (e : BusEvent) × (more : List BusEvent) × (left ≡ e ∷ more) × (unbuilt after e ≡ Some s)
 
 -- The events ran in order up to the first that has a stop: the history gained those that are done.
-pub record RanUpTo (before : Past) (events : List BusEvent) (after : Past) (stopped : Option ChipStop) : Type 0 where
+pub record RanUpTo (before : Past) (events : List BusEvent) (after : Past) (stopped : Option Unbuilt) : Type 0 where
   pub done : List BusEvent
   pub left : List BusEvent
   pub parts : events ≡ done ++ left

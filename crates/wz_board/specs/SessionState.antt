@@ -1,8 +1,8 @@
 -- A session as contracts see it.
 use Rattle.std.specs.Prelude.{Option}
-use Rattle.chip_sheet.specs.declared.stop.ChipStop.{ChipStop}
+use Rattle.chip_sheet.specs.declared.stop.Unbuilt.{Unbuilt}
 use Rattle.chip_sheet.specs.Past.{Past}
-use Rattle.chip_sheet.specs.Legal.{Legal}
+use Rattle.chip_sheet.specs.BuiltLegal.{BuiltLegal}
 use Rattle.chip_core.specs.declared.chip.Chip.{Chip}
 use Rattle.chip_core.specs.Chip.{Stands}
 
@@ -10,9 +10,9 @@ pub record SessionState : Type 0 where
   -- what happened
   pub past : Past
   -- the stop that the chip keeps
-  pub stopped : Option ChipStop
+  pub stopped : Option Unbuilt
 
 -- The chip stands for the history, which is legal.
 pub record Together (chip : Chip) (past : Past) : Type 0 where
   pub stands : Stands chip past
-  pub legal : Legal past
+  pub legal : BuiltLegal past

@@ -1,12 +1,21 @@
 //! The history of a chip's bus: a list that only grows.
 ghost use Rattle.std.specs.Prelude.{◌≡◌, ◌+◌, ◌<◌, ◌≤◌, [], ◌∷◌, length, reverse, OnOk, slice_get, option_map};
-ghost use Rattle.chip_sheet.specs.Past.{entry_of};
+ghost use Rattle.wz_board.specs.Log.{entry_of};
 
-use chip_sheet::event::Event;
+use chip_sheet::event::{BusAnswer, BusEvent};
 use std::alloc::{AllocError, Global};
 use std::marker::Model;
 
-fn event_at(events: &[Event], place: usize) -> Option<Event>
+/// One event of the bus, with the chip's answer.
+#[derive(Clone, Copy, Debug, PartialEq, Eq)]
+pub struct Exchange {
+    /// The event.
+    pub event: BusEvent,
+    /// The answer.
+    pub answer: BusAnswer,
+}
+
+fn event_at(events: &[Exchange], place: usize) -> Option<Exchange>
     ensures { option_map entry_of result ≡ option_map entry_of (slice_get events.now place) }
 {
     events.get(place).copied()
@@ -18,7 +27,7 @@ fn event_at(events: &[Event], place: usize) -> Option<Event>
 /// memory; `limit` is how many events it is meant to hold.
 #[derive(Drop)]
 pub struct History {
-    events: Vec<Event>,
+    events: Vec<Exchange>,
     limit: u64,
 }
 
@@ -65,7 +74,7 @@ impl History {
     }
 
     /// Adds an event, for which there is room.
-    pub fn push(&mut self, event: Event)
+    pub fn push(&mut self, event: Exchange)
         requires { 0 < self.old.spare }
         ensures past { self.new.past ≡ entry_of event ∷ self.old.past }
         ensures spare { self.old.spare ≤ self.new.spare + 1 }
@@ -82,7 +91,7 @@ impl History {
     }
 
     /// The event at a place, from 0; `None` exactly past the last.
-    pub fn get(&self, place: u64) -> Option<Event>
+    pub fn get(&self, place: u64) -> Option<Exchange>
         ensures { option_map entry_of result ≡ slice_get (reverse self.now.past) place }
     {
         event_at(&self.events, place as usize)

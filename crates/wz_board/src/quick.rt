@@ -1,5 +1,7 @@
 //! The top call.
 ghost use Rattle.std.specs.Prelude.{◌≡◌, ◌≢◌, ◌≤◌, ◌⊎◌, [], length, Some, None, Option, List, ℕ, map, string_bytes, IsSome, IfSome, IsErrOf};
+ghost use Rattle.chip_sheet.specs.Streams.{Starts};
+ghost use Rattle.chip_sheet.specs.BuiltLegal.{BuiltLegal};
 ghost use Rattle.chip_sheet.specs.Legal.{Legal};
 ghost use Rattle.wz_base.specs.Outside.{Rose, RisesOnly};
 ghost use Rattle.wz_base.specs.Whole.{Appends};
@@ -18,7 +20,7 @@ use crate::script::{ScriptError, script_lines};
 use crate::session::{Halt, Session};
 use crate::words::{Command, command_of, operand_of};
 use chip_sheet::event::BusEvent;
-use chip_sheet::stop::ChipStop;
+use chip_sheet::stop::Unbuilt;
 use ihex::{HexError, HexFault, load};
 use std::alloc::{AllocError, Global};
 use wz_base::{Files, ReadError, Sink, WriteError, read_whole, write_all};
@@ -58,17 +60,17 @@ fn refuse<K: Sink>(refusal: Refusal, history: History, out: &mut K) -> QuickEnd
 }
 
 // The refusal that a stop of the chip is.
-fn refusal_of(stop: ChipStop) -> Refusal
+fn refusal_of(stop: Unbuilt) -> Refusal
     ensures is { result ≡ refusal_of stop }
     ensures plain { IsPlain result }
 {
     match stop {
-        ChipStop::NotBuilt => Refusal::NotBuilt,
+        Unbuilt::NotBuilt => Refusal::NotBuilt,
     }
 }
 
 // Writes the line of the stop that ended a run.
-fn stop_run<K: Sink>(stop: ChipStop, history: History, out: &mut K) -> QuickEnd
+fn stop_run<K: Sink>(stop: Unbuilt, history: History, out: &mut K) -> QuickEnd
     ensures shows { (run : Run) (old : Option (List ℕ)) → run.stop ≡ Some stop → history.past ≡ run.past → Appends old run.text (K.written out.old)
         → Shows (end_of run run.stop) result.end result.history.past old (K.written out.new) }
     ensures past { result.history.past ≡ history.past }
@@ -82,7 +84,7 @@ fn stop_run<K: Sink>(stop: ChipStop, history: History, out: &mut K) -> QuickEnd
 // Runs the lines of a script.
 fn run_script<K: Sink>(alloc: Global, lines: &[Vec<BusEvent>], out: &mut K) -> QuickEnd
     ensures shows { Shows (lines_outcome (Some (lists lines.now))) result.end result.history.past (K.written out.old) (K.written out.new) }
-    ensures legal { Legal result.history.past }
+    ensures legal { BuiltLegal result.history.past }
     ensures status { result.status ≡ status_of result.end }
     ensures ends { IsOwn result.end }
     ensures faults { RisesOnly (result.end ≡ EndKind.WriteFault) (K.faults out.old) (K.faults out.new) }
@@ -101,7 +103,7 @@ fn run_script<K: Sink>(alloc: Global, lines: &[Vec<BusEvent>], out: &mut K) -> Q
 // Runs the text of a script.
 fn run_text<K: Sink>(alloc: Global, text: &[u8], out: &mut K) -> QuickEnd
     ensures shows { Shows (lines_outcome (script_lines text.now)) result.end result.history.past (K.written out.old) (K.written out.new) }
-    ensures legal { Legal result.history.past }
+    ensures legal { BuiltLegal result.history.past }
     ensures status { result.status ≡ status_of result.end }
     ensures ends { IsOwn result.end }
     ensures faults { RisesOnly (result.end ≡ EndKind.WriteFault) (K.faults out.old) (K.faults out.new) }
@@ -157,7 +159,7 @@ fn list_text<K: Sink>(alloc: Global, text: &[u8], out: &mut K) -> QuickEnd
 fn on_text<K: Sink>(alloc: Global, command: &Command<'_>, text: &[u8], out: &mut K) -> QuickEnd
     requires { length text.now ≤ 67108864 }
     ensures shows { Shows (text_outcome (asked command.now) text.now) result.end result.history.past (K.written out.old) (K.written out.new) }
-    ensures legal { Legal result.history.past }
+    ensures legal { BuiltLegal result.history.past }
     ensures status { result.status ≡ status_of result.end }
     ensures ends { IsOwn result.end }
     ensures faults { RisesOnly (result.end ≡ EndKind.WriteFault) (K.faults out.old) (K.faults out.new) }
@@ -176,7 +178,7 @@ fn run_command<F: Files, K: Sink>(
     out: &mut K,
 ) -> QuickEnd
     ensures reports { Reports (F.held files.old) (Some (asked command.now)) result.end result.history.past (K.written out.old) (K.written out.new) }
-    ensures legal { Legal result.history.past }
+    ensures legal { BuiltLegal result.history.past }
     ensures status { result.status ≡ status_of result.end }
     ensures usage { result.end ≢ EndKind.Refused Refusal.Usage }
     ensures misses { (result.end ≡ EndKind.Refused Refusal.NoFile) → Rose (F.misses files.old) (F.misses files.new) }
@@ -209,7 +211,8 @@ pub fn quick<F: Files, K: Sink>(
 ) -> Option<QuickEnd>
     ensures answers { IsSome result }
     ensures reports { IfSome result (λ r. Reports (F.held files.old) (command_of (map string_bytes words.now)) r.end r.history.past (K.written out.old) (K.written out.new)) }
-    ensures legal { IfSome result (λ r. Legal r.history.past) }
+    ensures built { IfSome result (λ r. BuiltLegal r.history.past) }
+    ensures legal { IfSome result (λ r. (starts : Starts) → Legal starts r.history.past) }
     ensures status { IfSome result (λ r. r.status ≡ status_of r.end) }
 
     // Each answer that is not of the text has its cause.

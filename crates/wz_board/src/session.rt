@@ -1,11 +1,11 @@
 // A chip with its history.
 ghost use Rattle.std.specs.Prelude.{◌≡◌, [], None, IfOk, OnOk, OnErr, IfErr};
-ghost use Rattle.chip_sheet.specs.Legal.{Legal};
+ghost use Rattle.chip_sheet.specs.BuiltLegal.{BuiltLegal};
 
-use crate::history::History;
+use crate::history::{Exchange, History};
 use chip_core::Chip;
-use chip_sheet::event::{BusAnswer, BusEvent, Event};
-use chip_sheet::stop::ChipStop;
+use chip_sheet::event::{BusAnswer, BusEvent};
+use chip_sheet::stop::Unbuilt;
 use std::alloc::Global;
 use std::marker::Model;
 
@@ -13,7 +13,7 @@ use std::marker::Model;
 #[derive(Clone, Copy, Debug, PartialEq, Eq)]
 pub enum Halt {
     /// The chip answered a stop.
-    Stopped(ChipStop),
+    Stopped(Unbuilt),
     /// The sink took no more.
     WriteFault,
     /// Memory was not there.
@@ -68,7 +68,11 @@ impl Session {
         }
         match self.chip.bus(e) {
             Ok(a) => {
-                self.history.push(Event::Bus(e, a));
+                let exchange = Exchange {
+                    event: e,
+                    answer: a,
+                };
+                self.history.push(exchange);
                 Ok(a)
             }
             Err(stop) => Err(Halt::Stopped(stop)),
@@ -78,7 +82,7 @@ impl Session {
     /// The history.
     pub fn into_history(self) -> History
         ensures past { result.past ≡ self.past }
-        ensures legal { Legal result.past }
+        ensures legal { BuiltLegal result.past }
     {
         self.history
     }

@@ -3,8 +3,8 @@ use Rattle.chip_sheet.specs.declared.phase.Phase.{Phase}
 use Rattle.chip_sheet.specs.declared.event.BusEvent.TheVariants.{Byte}
 use Rattle.chip_sheet.specs.declared.event.BusAnswer.TheVariants.{Out}
 use Rattle.chip_sheet.specs.Frames.{access, access_in}
-use Rattle.chip_sheet.specs.Answers.{byte_out}
-use Rattle.chip_sheet.specs.Stops.{stop}
+use Rattle.chip_sheet.specs.BuiltAnswers.{built_byte}
+use Rattle.chip_sheet.specs.BuiltStops.{unbuilt}
 use Rattle.chip_core.proofs.chip.Chip.byte.Goals as goal
 
 pub returns-clause-answered : goal.returns-clause-answered
@@ -13,8 +13,8 @@ returns-clause-answered c = λ past stands.
     let answer = Out c.exchange-out.result in
     let is : c.access_in-made.result ≡ access past (Byte v) =
     c.access_in-made.ensures ∙ ap (λ (p : Phase). access_in p v) (c.byte.ensures.phase past stands.framer) in
-    let free : stop past (Byte v) ≡ None = cc in
-    let out = c.exchange-out.ensures.out past stands.registers (c.idle_byte-idle.ensures past stands) ∙ ap (byte_out past) is in
+    let free : unbuilt past (Byte v) ≡ None = cc in
+    let out = c.exchange-out.ensures.out past stands.registers (c.idle_byte-idle.ensures past stands) ∙ ap (built_byte past) is in
     record {
       unstopped = c.requires;
       allowed = free;

@@ -1,0 +1,252 @@
+-- The bytes in flight and the unread bytes fit their buffers.
+use Rattle.std.proofs.Common.{◌≡◌, ◌≤◌, ◌<◌, ℕ, ◌+◌, ◌-◌, zero, suc, Bool, true, false, ◌&&◌, cond, eqb, ltb, leb, min, List, [], ◌∷◌, ◌++◌, length, length-append, Option, None, Some, inl, inr, refl, sym, ap, ◌∙◌, subst, arith, ◌⊎◌}
+use Rattle.std.proofs.lemmas.Bool.{cases_Bool, and_parts, or_cases, leb-true, cond-true, cond-false, false≢true}
+use Rattle.chip_sheet.specs.declared.event.Addr.{Addr}
+use Rattle.chip_sheet.specs.declared.event.ConnId.{ConnId}
+use Rattle.chip_sheet.specs.declared.socket.Status.{Status}
+use Rattle.chip_sheet.specs.declared.socket.Status.TheVariants.{Closed, SynSent, Established, FinWait, CloseWait, LastAck}
+use Rattle.chip_sheet.specs.declared.socket.Cause.{Cause}
+use Rattle.chip_sheet.specs.declared.socket.Cause.TheVariants as because
+use Rattle.chip_sheet.specs.declared.socket.Due.{Due}
+use Rattle.chip_sheet.specs.declared.socket.Due.TheVariants as due
+use Rattle.chip_sheet.specs.Past.{Past, Entry, Bus, Link, Rest, LinkEntry, Linked, Got}
+use Rattle.chip_sheet.specs.Frames.{access}
+use Rattle.chip_sheet.specs.Life.{life, cause, happening, status, lives, is_closed}
+use Rattle.chip_sheet.specs.Sizes.{tx_size, rx_size}
+use Rattle.chip_sheet.specs.Streams.{Starts, sent, sent_by, sends, takes_send, range_length, tx_bytes, tx_base, taken, taken_by, is_open, is_of, is_established, got, bytes_of, released, released_by}
+use Rattle.chip_sheet.specs.Windows.{flight, unread, tx_free, rx_free}
+use Rattle.chip_sheet.specs.LinkCalls.{outgoing, incoming, outgoing_in, incoming_in, connection, connect_address, listen_port, answers_call, most_read, fits}
+use Rattle.chip_sheet.specs.Legal.{Legal}
+use Rattle.chip_sheet.proofs.SentLaws.{sent_same}
+use Rattle.chip_sheet.proofs.SizeLaws.{sizes_after}
+use Rattle.chip_sheet.proofs.Within.{send_within, taken_within, released_within, both_same, never_asks}
+use Rattle.chip_sheet.proofs.LifeSteps.{is_fresh, was_alive, fresh_sent, fresh_got, sent_by_fresh, got_fresh}
+
+open_socket : (at : Status) → is_open at ≡ true → is_closed at ≡ false
+open_socket Closed h = cc
+open_socket at h = refl
+
+-- A SEND lengthens what was sent by the length of its range.
+bytes_length : (past : Past) (n at count : ℕ) → length (tx_bytes past n at count) ≡ count
+bytes_length past n at zero = refl
+bytes_length past n at (suc count) = ap suc (bytes_length past n (at + 1) count)
+
+-- So many more bytes at most.
+record Sends (before after free : ℕ) : Type 0 where
+  at_most : after ≤ before + free
+
+cond_sends : (takes : Bool) (before range : List ℕ) (free : ℕ) → (takes ≡ true → length range ≤ free) → Sends (length before) (length (cond takes (before ++ range) before)) free
+cond_sends true before range free few = record { at_most = omega (arith, length-append before range, few refl) }
+cond_sends false before range free few = record { at_most = omega arith }
+
+sent_by_few : (starts : Starts) (past : Past) (n : ℕ) (why : Cause)
+    → (why ≡ because.Send → sends (status past n) ≡ true → range_length starts past n (length (sent starts past n (lives past n))) ≤ tx_free starts past n)
+    → Sends (length (sent starts past n (lives past n))) (length (sent_by starts past n (lives past n) why (sent starts past n (lives past n)))) (tx_free starts past n)
+sent_by_few starts past n because.Send few =
+    let so_far = length (sent starts past n (lives past n)) in
+    let at = tx_base starts past n (lives past n) + so_far in
+    cond_sends (takes_send past n (lives past n)) (sent starts past n (lives past n)) (tx_bytes past n at (range_length starts past n so_far)) (tx_free starts past n)
+    (λ takes.
+    let long = bytes_length past n at (range_length starts past n so_far) in
+    let short = few refl (and_parts (sends (status past n)) (eqb (lives past n) (lives past n)) takes).0 in
+    omega (arith, long, short))
+sent_by_few starts past n why few = record { at_most = omega arith }
+
+never_sends : (what : LinkEntry) → happening what ≡ because.Send → ⊥
+never_sends Linked h = cc
+never_sends what h = cc
+
+link_sends : (b : Bool) (what : LinkEntry) → cond b (happening what) because.Nothing ≡ because.Send → ⊥
+link_sends true what h = never_sends what h
+link_sends false what h = cc
+
+taken_more : (b : Bool) (before count : ℕ) → before ≤ cond b (before + count) before
+taken_more true before count = omega arith
+taken_more false before count = omega arith
+
+-- So much was sent, and no less is taken; or so much more was sent, and the same is taken.
+few_fly : (s s2 t t2 size : ℕ) → t ≤ s → s - t ≤ size → t ≤ t2 → s2 ≤ s → s2 - t2 ≤ size
+few_fly s s2 t t2 size h fit more same = omega arith
+
+more_fly : (s s2 t size : ℕ) → t ≤ s → s - t ≤ size → s2 ≤ s + (size - (s - t)) → s2 - t ≤ size
+more_fly s s2 t size h fit more = omega arith
+
+-- The bytes in flight of a life that was open before.
+open_fly : (starts : Starts) (past : Past) (entry : Entry) (n : ℕ) → Legal starts (entry ∷ past) → is_open (status past n) ≡ true → flight starts past n ≤ tx_size past n
+    → length (sent starts (entry ∷ past) n (lives past n)) - taken (entry ∷ past) n (lives past n) ≤ tx_size past n
+open_fly starts past (Bus e a) n legal on fit =
+    let s = length (sent starts past n (lives past n)) in
+    let t = taken past n (lives past n) in
+    let is : flight starts past n ≡ s - t = cond-true (is_open (status past n)) (s - t) 0 on in
+    let few = sent_by_few starts past n (cause past n (Bus e a)) (λ why takes. send_within starts past n (access past e) why takes legal.0.0) in
+    more_fly s _ t (tx_size past n) (taken_within starts past n (lives past n) legal.1) (omega (arith, is, fit)) (omega (arith, is, few.at_most))
+open_fly starts past (Link m what) n legal on fit =
+    let s = length (sent starts past n (lives past n)) in
+    let t = taken past n (lives past n) in
+    let is : flight starts past n ≡ s - t = cond-true (is_open (status past n)) (s - t) 0 on in
+    let same = ap length (sent_same starts past (Link m what) n (lives past n) (link_sends (eqb m n) what)) in
+    few_fly s _ t _ (tx_size past n) (taken_within starts past n (lives past n) legal.1) (omega (arith, is, fit))
+    (taken_more (is_of past m n (lives past n)) t (taken_by what)) (omega (arith, same))
+open_fly starts past Rest n legal on fit =
+    let s = length (sent starts past n (lives past n)) in
+    let t = taken past n (lives past n) in
+    let is : flight starts past n ≡ s - t = cond-true (is_open (status past n)) (s - t) 0 on in
+    omega (arith, is, fit)
+
+-- Of a fresh life nothing is sent, so nothing is in flight.
+fresh_fly : (starts : Starts) (past : Past) (entry : Entry) (n size : ℕ) → is_fresh (status past n) ≡ true
+    → length (sent starts (entry ∷ past) n (lives past n)) - taken (entry ∷ past) n (lives past n) ≤ size
+fresh_fly starts past entry n size fresh =
+    let none = ap length (sent_by_fresh starts past n (lives past n) (cause past n entry) (sent starts past n (lives past n)) fresh ∙ fresh_sent starts past n fresh) in
+    omega (arith, none)
+
+alive_fly : (starts : Starts) (past : Past) (entry : Entry) (n : ℕ) → Legal starts (entry ∷ past) → flight starts past n ≤ tx_size past n
+    → (is_open (status past n) ≡ true) ⊎ (is_fresh (status past n) ≡ true)
+    → length (sent starts (entry ∷ past) n (lives past n)) - taken (entry ∷ past) n (lives past n) ≤ tx_size past n
+alive_fly starts past entry n legal fit (inl on) = open_fly starts past entry n legal on fit
+alive_fly starts past entry n legal fit (inr fresh) = fresh_fly starts past entry n (tx_size past n) fresh
+
+pub flight_within : (starts : Starts) (past : Past) (n : ℕ) → n < 8 → Legal starts past → flight starts past n ≤ tx_size past n
+flight_within starts [] n below legal = omega arith
+flight_within starts (entry ∷ past) n below legal =
+    let after = length (sent starts (entry ∷ past) n (lives (entry ∷ past) n)) - taken (entry ∷ past) n (lives (entry ∷ past) n) in
+    elim (cases_Bool (is_open (status (entry ∷ past) n))) [
+      | inr shut ↦ let none : flight starts (entry ∷ past) n ≡ 0 = cond-false (is_open (status (entry ∷ past) n)) after 0 shut in omega (arith, none)
+      | inl on ↦
+          let is : flight starts (entry ∷ past) n ≡ after = cond-true (is_open (status (entry ∷ past) n)) after 0 on in
+          let was = was_alive past entry n on in
+          let stay : tx_size (entry ∷ past) n ≡ tx_size past n = (sizes_after starts past entry n below legal (open_socket (status (entry ∷ past) n) on)).tx n in
+          let fit = alive_fly starts past entry n legal (flight_within starts past n below legal.1) was.status in
+          let now : after ≤ tx_size past n =
+          subst (λ (l : ℕ). length (sent starts (entry ∷ past) n l) - taken (entry ∷ past) n l ≤ tx_size past n) (sym was.lives) fit in
+          omega (arith, is, stay, now)
+    ]
+
+-- A link supplies no more than is free of the RX buffer, where the bytes are kept.
+no_read_in_one : (b : Bool) (c : ConnId) (flight free : ℕ) (bytes : List ℕ) → answers_call (cond b (due.Write c) due.Nothing) flight free (Got bytes) ≡ false
+no_read_in_one true c flight free bytes = refl
+no_read_in_one false c flight free bytes = refl
+
+no_read_in_two : (b shut : Bool) (c : ConnId) (flight free : ℕ) (bytes : List ℕ)
+    → answers_call (cond b (due.Write c) (cond shut due.Nothing (due.Shut c))) flight free (Got bytes) ≡ false
+no_read_in_two true shut c flight free bytes = refl
+no_read_in_two false true c flight free bytes = refl
+no_read_in_two false false c flight free bytes = refl
+
+no_read_out : (at : Status) (c : ConnId) (to : Addr) (flying : ℕ) (shut : Bool) (flight free : ℕ) (bytes : List ℕ)
+    → answers_call (outgoing_in at c to flying shut) flight free (Got bytes) ≡ false
+no_read_out Established c to flying shut flight free bytes = no_read_in_one (ltb 0 flying) c flight free bytes
+no_read_out CloseWait c to flying shut flight free bytes = no_read_in_one (ltb 0 flying) c flight free bytes
+no_read_out FinWait c to flying shut flight free bytes = no_read_in_two (ltb 0 flying) shut c flight free bytes
+no_read_out LastAck c to flying shut flight free bytes = no_read_in_two (ltb 0 flying) shut c flight free bytes
+no_read_out SynSent c to flying shut flight free bytes = refl
+no_read_out at c to flying shut flight free bytes = refl
+
+no_read_old : (old : Option ℕ) (n : ℕ) (call : Due) (flight free : ℕ) (bytes : List ℕ) → answers_call call flight free (Got bytes) ≡ false
+    → answers_call (elim old as (λ o. Due) [ None ↦ call | Some life ↦ due.Drop (connection n life) ]) flight free (Got bytes) ≡ false
+no_read_old None n call flight free bytes h = h
+no_read_old (Some life) n call flight free bytes h = refl
+
+read_few : (b : Bool) (c : ConnId) (flight free : ℕ) (bytes : List ℕ) → answers_call (cond b (due.Read c) due.Nothing) flight free (Got bytes) ≡ true → length bytes ≤ free
+read_few true c flight free bytes h =
+    let most = leb-true (length bytes) (min free most_read) (and_parts (leb 1 (length bytes)) (leb (length bytes) (min free most_read)) h).1 in
+    omega (arith, most)
+read_few false c flight free bytes h = cc
+
+read_in : (at : Status) (c : ConnId) (port free : ℕ) (ended : Bool) (flight : ℕ) (bytes : List ℕ) → is_established at ≡ true
+    → answers_call (incoming_in at c port free ended) flight free (Got bytes) ≡ true → length bytes ≤ free
+read_in Established c port free ended flight bytes on h = read_few (ltb 0 free) c flight free bytes h
+read_in at c port free ended flight bytes on h = cc
+
+read_old : (old : Option ℕ) (call : Due) (flight free : ℕ) (bytes : List ℕ) → (answers_call call flight free (Got bytes) ≡ true → length bytes ≤ free)
+    → answers_call (elim old as (λ o. Due) [ None ↦ call | Some life ↦ due.Nothing ]) flight free (Got bytes) ≡ true → length bytes ≤ free
+read_old None call flight free bytes few h = few h
+read_old (Some life) call flight free bytes few h = cc
+
+got_limit : (starts : Starts) (past : Past) (n : ℕ) (what : LinkEntry) → is_established (status past n) ≡ true → fits starts past n what ≡ true
+    → length (bytes_of what) ≤ rx_free starts past n
+got_limit starts past n (Got bytes) on h =
+    let at = life past n in
+    let fl = flight starts past n in
+    let fr = rx_free starts past n in
+    elim (or_cases (answers_call (outgoing starts past n) fl fr (Got bytes)) (answers_call (incoming starts past n) fl fr (Got bytes)) h) [
+      | inl out ↦
+          let call = outgoing_in at.status (connection n at.lives) (connect_address past n) fl at.shut in
+          absurd (false≢true (sym (no_read_old at.old n call fl fr bytes (no_read_out at.status (connection n at.lives) (connect_address past n) fl at.shut fl fr bytes)) ∙ out))
+      | inr in_ ↦
+          let call = incoming_in at.status (connection n at.lives) (listen_port past n) fr at.ended in
+          read_old at.old call fl fr bytes (read_in at.status (connection n at.lives) (listen_port past n) fr at.ended fl bytes on) in_
+    ]
+got_limit starts past n what on h = omega arith
+
+cond_reads : (takes : Bool) (before more : List ℕ) (free : ℕ) → (takes ≡ true → length more ≤ free) → length (cond takes (before ++ more) before) ≤ length before + free
+cond_reads true before more free few = omega (arith, length-append before more, few refl)
+cond_reads false before more free few = omega arith
+
+got_few : (starts : Starts) (past : Past) (m n : ℕ) (what : LinkEntry) → fits starts past m what ≡ true
+    → length (got (Link m what ∷ past) n (lives past n)) ≤ length (got past n (lives past n)) + rx_free starts past n
+got_few starts past m n what h =
+    cond_reads (is_of past m n (lives past n) && is_established (status past n)) (got past n (lives past n)) (bytes_of what) (rx_free starts past n)
+    (λ takes.
+    let p = and_parts (is_of past m n (lives past n)) (is_established (status past n)) takes in
+    let e = both_same m n (lives past n) (lives past n) p.0 in
+    got_limit starts past n what p.1 (subst (λ (k : ℕ). fits starts past k what ≡ true) e.0 h))
+
+released_same : (starts : Starts) (past : Past) (n life : ℕ) (why : Cause) (before : ℕ) → (why ≡ because.Receive → ⊥) → released_by starts past n life why before ≡ before
+released_same starts past n life because.Receive before h = absurd (h refl)
+released_same starts past n life why before h = refl
+
+released_more : (starts : Starts) (past : Past) (n life : ℕ) (why : Cause) (before : ℕ) → before ≤ released_by starts past n life why before
+released_more starts past n life because.Receive before = taken_more (is_open (status past n) && eqb (lives past n) life) before _
+released_more starts past n life why before = omega arith
+
+open_reads : (starts : Starts) (past : Past) (entry : Entry) (n : ℕ) → Legal starts (entry ∷ past) → is_open (status past n) ≡ true → unread starts past n ≤ rx_size past n
+    → length (got (entry ∷ past) n (lives past n)) - released starts (entry ∷ past) n (lives past n) ≤ rx_size past n
+open_reads starts past (Link m what) n legal on fit =
+    let g = length (got past n (lives past n)) in
+    let r = released starts past n (lives past n) in
+    let is : unread starts past n ≡ g - r = cond-true (is_open (status past n)) (g - r) 0 on in
+    let same = released_same starts past n (lives past n) (cause past n (Link m what)) r (never_asks (eqb m n) what) in
+    let few = got_few starts past m n what legal.0.1 in
+    let now = more_fly g (length (got (Link m what ∷ past) n (lives past n))) r (rx_size past n) (released_within starts past n (lives past n) legal.1)
+    (omega (arith, is, fit)) (omega (arith, is, few)) in
+    omega (arith, same, now)
+open_reads starts past (Bus e a) n legal on fit =
+    let g = length (got past n (lives past n)) in
+    let r = released starts past n (lives past n) in
+    let is : unread starts past n ≡ g - r = cond-true (is_open (status past n)) (g - r) 0 on in
+    let more = released_more starts past n (lives past n) (cause past n (Bus e a)) r in
+    omega (arith, is, fit, more)
+open_reads starts past Rest n legal on fit =
+    let g = length (got past n (lives past n)) in
+    let r = released starts past n (lives past n) in
+    let is : unread starts past n ≡ g - r = cond-true (is_open (status past n)) (g - r) 0 on in
+    omega (arith, is, fit)
+
+fresh_reads : (starts : Starts) (past : Past) (entry : Entry) (n size : ℕ) → is_fresh (status past n) ≡ true
+    → length (got (entry ∷ past) n (lives past n)) - released starts (entry ∷ past) n (lives past n) ≤ size
+fresh_reads starts past entry n size fresh =
+    let none = ap length (got_fresh past entry n (lives past n) fresh ∙ fresh_got past n fresh) in
+    omega (arith, none)
+
+alive_reads : (starts : Starts) (past : Past) (entry : Entry) (n : ℕ) → Legal starts (entry ∷ past) → unread starts past n ≤ rx_size past n
+    → (is_open (status past n) ≡ true) ⊎ (is_fresh (status past n) ≡ true)
+    → length (got (entry ∷ past) n (lives past n)) - released starts (entry ∷ past) n (lives past n) ≤ rx_size past n
+alive_reads starts past entry n legal fit (inl on) = open_reads starts past entry n legal on fit
+alive_reads starts past entry n legal fit (inr fresh) = fresh_reads starts past entry n (rx_size past n) fresh
+
+pub unread_within : (starts : Starts) (past : Past) (n : ℕ) → n < 8 → Legal starts past → unread starts past n ≤ rx_size past n
+unread_within starts [] n below legal = omega arith
+unread_within starts (entry ∷ past) n below legal =
+    let after = length (got (entry ∷ past) n (lives (entry ∷ past) n)) - released starts (entry ∷ past) n (lives (entry ∷ past) n) in
+    elim (cases_Bool (is_open (status (entry ∷ past) n))) [
+      | inr shut ↦ let none : unread starts (entry ∷ past) n ≡ 0 = cond-false (is_open (status (entry ∷ past) n)) after 0 shut in omega (arith, none)
+      | inl on ↦
+          let is : unread starts (entry ∷ past) n ≡ after = cond-true (is_open (status (entry ∷ past) n)) after 0 on in
+          let was = was_alive past entry n on in
+          let stay : rx_size (entry ∷ past) n ≡ rx_size past n = (sizes_after starts past entry n below legal (open_socket (status (entry ∷ past) n) on)).rx n in
+          let fit = alive_reads starts past entry n legal (unread_within starts past n below legal.1) was.status in
+          let now : after ≤ rx_size past n =
+          subst (λ (l : ℕ). length (got (entry ∷ past) n l) - released starts (entry ∷ past) n l ≤ rx_size past n) (sym was.lives) fit in
+          omega (arith, is, stay, now)
+    ]
