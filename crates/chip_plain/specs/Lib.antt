@@ -1,0 +1,4 @@
+pub mod SocketPlaces
+pub mod Deeds
+pub mod History
+pub mod Plainly
