@@ -1,0 +1,5 @@
+mod Each
+mod Faults
+mod Front
+mod Lines
+mod Others

@@ -1,0 +1,4 @@
+mod Fronts
+mod Joined
+mod Runs
+mod Spaces
