@@ -1,0 +1,255 @@
+//! The microcontroller: its steps, one at a time.
+ghost use Rattle.std.specs.Prelude.{◌≡◌, ◌+◌, ◌<◌, ◌≤◌, ◌^◌, IfOk, slice_get};
+ghost use Rattle.avr_core.specs.Ask.{Plays};
+ghost use Rattle.avr_mcu.specs.Settled.{IsKept, IsTimed};
+ghost use Rattle.avr_mcu.specs.Step.{counting, entered, entry, finished, gone, instruction, looking, owes, passing, request, sleeping, stepped};
+
+use crate::bits::is_set;
+use crate::devices::Devices;
+use crate::peer::BusPeer;
+use crate::run_core::{run_entry, run_instruction};
+use crate::trail::Trail;
+use crate::went::McuWent;
+use avr_core::{Core, Went};
+use ihex::{Image, NoMemory};
+use std::alloc::Global;
+use std::marker::Model;
+
+/// Data address of SMCR, whose bit 0 enables sleeping.
+const SMCR: u16 = 0x53;
+
+/// The opcode of SEI, which is BSET 7.
+const SEI: u16 = 0x9478;
+
+/// The opcode of RETI.
+const RETI: u16 = 0x9518;
+
+/// Words of flash.
+const WORDS: u16 = 0x4000;
+
+/// INTn is looked at after so many instructions and cycles asleep.
+const LOOK_PERIOD: u8 = 64;
+
+/// An ATmega328P with its firmware.
+#[derive(Drop)]
+pub struct Mcu {
+    image: Image,
+    core: Core,
+    devices: Devices,
+    asleep: bool,
+    owed: bool,
+    counted: u8,
+    trail: Trail,
+}
+
+impl Model for Mcu {
+    ghost use Rattle.avr_mcu.specs.State.{McuState};
+    ghost use Rattle.std.specs.Prelude.{◌<◌};
+
+    ghost Value = { McuState };
+
+    ghost view = { λ m. record { flash = m.image; core = m.core; devices = m.devices; asleep = m.asleep; owed = m.owed; counted = m.counted; trail = m.trail } };
+
+    ghost invariant = { λ m. m.counted < 64 };
+}
+
+impl Mcu {
+    ghost use Rattle.avr_mcu.specs.State.{printed, reset_state, taken};
+
+    /// The part after reset, with this flash. The error says that no memory was left.
+    pub fn new(alloc: Global, image: Image) -> Result<Mcu, NoMemory>
+        ensures { IfOk result (λ mcu. mcu ≡ reset_state image) }
+    {
+        Ok(Mcu {
+            image,
+            core: Core::new(),
+            devices: Devices::new(alloc)?,
+            asleep: false,
+            owed: false,
+            counted: 0,
+            trail: Trail::new(alloc)?,
+        })
+    }
+
+    /// One step: an interrupt entry, else a cycle asleep, else an instruction.
+    ///
+    /// The peer is told each change of the select line and each byte that the SPI sends, and INTn is looked at after
+    /// each of them and after each 64th instruction; what follows stands on its answers. A step that goes on takes one
+    /// to four cycles. `BusOver` comes only where the peer said so in this step. After a stop all is as before the step,
+    /// but that the trail has the instruction. `cycles()` is below 2^63 when a step is begun.
+    pub fn step<B: BusPeer>(&mut self, peer: &mut B) -> McuWent
+        requires { self.old.devices.cycles < 2 ^ 63 }
+        ensures cycles { IsTimed result self.old.devices.cycles self.new.devices.cycles }
+        ensures kept { IsKept result self.old self.new }
+        ensures plays { Plays B.did peer.old (stepped self.old) (gone result self.new) peer.new }
+    {
+        self.step_once(peer)
+    }
+
+    #[tactic(auto, unfolding(crate::specs::Step::stepped))]
+    fn step_once<B: BusPeer>(&mut self, peer: &mut B) -> McuWent
+        requires { self.old.devices.cycles < 2 ^ 63 }
+        ensures { Plays B.did peer.old (stepped self.old) (gone result self.new) peer.new }
+    {
+        match self.request() {
+            Some(vector) => self.enter(vector, peer),
+            None => {
+                if self.asleep {
+                    self.count(McuWent::Asleep, 1, peer)
+                } else {
+                    self.execute(peer)
+                }
+            }
+        }
+    }
+
+    /// The interrupt that is entered now: with I set and no instruction owed, the pending one.
+    #[tactic(auto, unfolding(crate::specs::Step::request))]
+    fn request(&self) -> Option<u8>
+        ensures { result ≡ request self.now }
+    {
+        if is_set(self.core.sreg(), 7) && !self.owed {
+            self.devices.pending()
+        } else {
+            None
+        }
+    }
+
+    /// An interrupt entry.
+    fn enter<B: BusPeer>(&mut self, vector: u8, peer: &mut B) -> McuWent
+        requires { self.old.devices.cycles < 2 ^ 63 }
+        ensures { Plays B.did peer.old (entry vector self.old) (gone result self.new) peer.new }
+    {
+        let went = run_entry(&mut self.core, vector, &mut self.devices, peer);
+        self.finish_entry(vector, went)
+    }
+
+    /// What follows once the core has entered an interrupt, or has not.
+    fn finish_entry(&mut self, vector: u8, went: Went) -> McuWent
+        requires { self.old.devices.cycles < 2 ^ 63 }
+        ensures { gone result self.new ≡ entered vector went self.old }
+    {
+        match went {
+            Went::Ran(cycles) => {
+                self.devices.served(vector);
+                self.asleep = false;
+                self.pass(McuWent::Served, cycles)
+            }
+            Went::Break => self.pass(McuWent::Break, 1),
+            Went::Sleep => self.pass(McuWent::Sleep, 1),
+            Went::BusOver => McuWent::BusOver,
+            Went::Stop(stop) => McuWent::Stop(stop),
+        }
+    }
+
+    /// One instruction.
+    fn execute<B: BusPeer>(&mut self, peer: &mut B) -> McuWent
+        requires { self.old.devices.cycles < 2 ^ 63 }
+        ensures { Plays B.did peer.old (instruction self.old) (gone result self.new) peer.new }
+    {
+        let owed = self.owes();
+        self.trail.note(self.core.pc());
+        let went = run_instruction(&mut self.core, &self.image, &mut self.devices, peer);
+        self.finish(owed, went, peer)
+    }
+
+    /// Whether the next instruction is SEI or RETI.
+    #[tactic(auto, unfolding(crate::specs::Step::owes))]
+    fn owes(&self) -> bool
+        ensures { result ≡ owes self.now.flash self.now.core }
+    {
+        let word = self.image.word(self.core.pc() % WORDS);
+        word == SEI || word == RETI
+    }
+
+    /// What follows once the core has gone so.
+    fn finish<B: BusPeer>(&mut self, owed: bool, went: Went, peer: &mut B) -> McuWent
+        requires { self.old.devices.cycles < 2 ^ 63 }
+        ensures { Plays B.did peer.old (finished owed went self.old) (gone result self.new) peer.new }
+    {
+        match went {
+            Went::Ran(cycles) => {
+                self.owed = owed;
+                self.count(McuWent::Ran, cycles, peer)
+            }
+            Went::Break => self.pass(McuWent::Break, 1),
+            Went::Sleep => self.sleep(peer),
+            Went::BusOver => McuWent::BusOver,
+            Went::Stop(stop) => McuWent::Stop(stop),
+        }
+    }
+
+    /// SLEEP.
+    fn sleep<B: BusPeer>(&mut self, peer: &mut B) -> McuWent
+        requires { self.old.devices.cycles < 2 ^ 63 }
+        ensures { Plays B.did peer.old (sleeping self.old) (gone result self.new) peer.new }
+    {
+        if is_set(self.core.sreg(), 7) {
+            self.owed = false;
+            self.asleep = is_set(self.devices.memory.get(SMCR), 0);
+            self.count(McuWent::Ran, 1, peer)
+        } else {
+            self.pass(McuWent::Sleep, 1)
+        }
+    }
+
+    /// An instruction or a cycle asleep is over.
+    #[tactic(auto, unfolding(crate::specs::Step::counting))]
+    fn count<B: BusPeer>(&mut self, went: McuWent, cycles: u8, peer: &mut B) -> McuWent
+        requires { self.old.devices.cycles < 2 ^ 63 }
+        ensures { Plays B.did peer.old (counting went cycles self.old) (gone result self.new) peer.new }
+    {
+        self.counted = (self.counted + 1) % LOOK_PERIOD;
+        if self.counted == 0 {
+            self.look(went, cycles, peer)
+        } else {
+            self.pass(went, cycles)
+        }
+    }
+
+    /// INTn is looked at, and then the cycles pass.
+    fn look<B: BusPeer>(&mut self, went: McuWent, cycles: u8, peer: &mut B) -> McuWent
+        requires { self.old.devices.cycles < 2 ^ 63 }
+        ensures { Plays B.did peer.old (looking went cycles self.old) (gone result self.new) peer.new }
+    {
+        match peer.look() {
+            Err(_) => McuWent::BusOver,
+            Ok(high) => {
+                self.devices.int_level(high);
+                self.pass(went, cycles)
+            }
+        }
+    }
+
+    /// The devices pass the step's cycles.
+    fn pass(&mut self, went: McuWent, cycles: u8) -> McuWent
+        requires { self.old.devices.cycles < 2 ^ 63 }
+        ensures { gone result self.new ≡ passing went cycles self.old }
+    {
+        self.devices.pass(cycles);
+        went
+    }
+
+    /// Takes the byte that entered the USART's shifter in the last step. `None` exactly where none did.
+    pub fn printed(&mut self) -> Option<u8>
+        ensures value { result ≡ printed self.old }
+        ensures state { self.new ≡ taken self.old }
+    {
+        self.devices.serial.printed()
+    }
+
+    /// Cycles since reset.
+    pub fn cycles(&self) -> u64
+        ensures { result ≡ self.now.devices.cycles }
+    {
+        self.devices.cycles
+    }
+
+    /// The word address of one of the last 16 instructions that were started, from the oldest; `None` exactly past
+    /// the last one.
+    pub fn trail(&self, i: u8) -> Option<u16>
+        ensures { result ≡ slice_get self.now.trail i }
+    {
+        self.trail.get(i)
+    }
+}
