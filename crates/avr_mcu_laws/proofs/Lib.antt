@@ -1,0 +1,7 @@
+mod Found
+mod Vectors
+mod Cuts
+mod CoreCuts
+mod DeviceCuts
+mod StepCuts
+mod Ends
