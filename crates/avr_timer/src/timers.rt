@@ -170,9 +170,9 @@ impl Timers {
         let prescale0 = prescale_of(self.timer0.tccrb % 8);
         let prescale1 = prescale_of(self.timer1.tccrb % 8);
         let prescale2 = timer2_prescale_of(self.timer2.tccrb % 8);
-        self.timer0 = self.timer0.passed(prescale0, from, to);
-        self.timer1 = self.timer1.passed(prescale1, from, to);
-        self.timer2 = self.timer2.passed(prescale2, from, to);
+        self.timer0.pass(prescale0, from, to);
+        self.timer1.pass(prescale1, from, to);
+        self.timer2.pass(prescale2, from, to);
     }
 
     /// The pending interrupt, by the word address of its vector: the lowest whose flag is set and that is enabled.
