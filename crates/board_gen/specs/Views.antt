@@ -3,7 +3,7 @@ use Rattle.std.specs.Prelude.{◌≡◌, ℕ, List, map, Result, Ok, Err, Vec}
 use Rattle.std.specs.Borrow.{Bor}
 use Rattle.std.specs.declared.alloc.Global.{Global}
 use Rattle.chip_sheet.specs.Past as past
-use Rattle.chip_sheet.specs.Past.{LinkEntry}
+use Rattle.chip_sheet.specs.declared.event.LinkEntry.{LinkEntry}
 use Rattle.chip_sheet.specs.Replay.{Step, Asks, Happens}
 use Rattle.board_gen.specs.declared.token.LinkToken.{LinkToken}
 use Rattle.board_gen.specs.declared.token.LinkToken.TheVariants.{Linked, Accepted, Refused, TimedOut, Took, Got, Datagram, Ended, Shut, Failed, Dropped}

@@ -3,7 +3,8 @@ use Rattle.std.specs.Prelude.{◌≡◌, ◌⊎◌, Option, Some, None, ◌∷�
 use Rattle.board_bus.specs.declared.event.BusEvent.{BusEvent}
 use Rattle.board_bus.specs.declared.event.BusAnswer.{BusAnswer}
 use Rattle.chip_sheet.specs.declared.stop.Unbuilt.{Unbuilt}
-use Rattle.chip_sheet.specs.Past.{Past, Bus}
+use Rattle.chip_sheet.specs.declared.event.Entry.TheVariants.{Bus}
+use Rattle.chip_sheet.specs.Past.{Past}
 use Rattle.chip_sheet.specs.BuiltAnswers.{built_answer}
 use Rattle.chip_sheet.specs.BuiltStops.{unbuilt}
 use Rattle.chip_core.specs.declared.chip.Chip.{Chip}
