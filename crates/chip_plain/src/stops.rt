@@ -39,7 +39,12 @@ fn block_access(made: Access) -> BlockAccess
     match made {
         Access::NoAccess => BlockAccess::NoBlock,
         Access::Read { block, addr } => BlockAccess::Reads(block, block_of(block), addr),
-        Access::Write { block, addr, value } => BlockAccess::Writes(block, block_of(block), addr, value),
+        Access::Write { block, addr, value } => BlockAccess::Writes(
+            block,
+            block_of(block),
+            addr,
+            value,
+        ),
     }
 }
 
@@ -48,7 +53,8 @@ fn reserved_block(made: BlockAccess) -> Option<ChipStop>
     ensures { result ≡ sheet.reserved_block (sheet_block_access made) }
 {
     match made {
-        BlockAccess::Reads(block, Block::Reserved, _) | BlockAccess::Writes(block, Block::Reserved, _, _) => {
+        BlockAccess::Reads(block, Block::Reserved, _)
+        | BlockAccess::Writes(block, Block::Reserved, _, _) => {
             Some(ChipStop::ReservedBlock { block })
         }
         _ => None,
@@ -320,11 +326,7 @@ fn refused_command(
 }
 
 // The stops in the order in which they are looked at, those of commands last.
-fn stop_by(
-    starts: Starts,
-    past: &Past,
-    made: BlockAccess,
-) -> Result<Option<ChipStop>, AllocError>
+fn stop_by(starts: Starts, past: &Past, made: BlockAccess) -> Result<Option<ChipStop>, AllocError>
     ensures { IfOk result (λ stop. stop ≡ sheet.stop_by (sheet_starts starts) past.now (sheet_block_access made)) }
 {
     if let Some(stop) = reserved_block(made) {
