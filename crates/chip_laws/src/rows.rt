@@ -99,5 +99,5 @@ pub fn got_of_nothing()
 #[tactic(auto, unfolding(chip_sheet::specs::Frames::cut, chip_sheet::specs::Frames::current, chip_sheet::specs::CommonBlock::common_place, chip_sheet::specs::SocketBlock::socket_place))]
 pub fn supplies_after_discon()
     ensures supplied { supplied (told from_zero [] (linked (Happens 0 (Got (0x01 ∷ 0x02 ∷ [])) ∷ write_register 0x01 0x08 (Happens 0 (Got (0x03 ∷ [])) ∷ [])))).past 0 1 ≡ 1 ∷ 2 ∷ 3 ∷ [] }
-    ensures got { got (told from_zero [] (linked (Happens 0 (Got (0x01 ∷ 0x02 ∷ [])) ∷ write_register 0x01 0x08 (Happens 0 (Got (0x03 ∷ [])) ∷ [])))).past 0 1 ≡ 1 ∷ 2 ∷ [] }
+    ensures got { got from_zero (told from_zero [] (linked (Happens 0 (Got (0x01 ∷ 0x02 ∷ [])) ∷ write_register 0x01 0x08 (Happens 0 (Got (0x03 ∷ [])) ∷ [])))).past 0 1 ≡ 1 ∷ 2 ∷ [] }
 {}
