@@ -1,0 +1,5 @@
+use Rattle.std.proofs.Common.{replicate, ap, ◌∙◌}
+use Rattle.ring_mem.proofs.sends.Sends.clear.Goals as goal
+
+pub returns-clause-memory : goal.returns-clause-memory
+returns-clause-memory c = c.fill.ensures.items (λ y e. e) ∙ ap (λ n. replicate n 0) c.args.self.now.memory_len
