@@ -60,6 +60,17 @@ impl Receives {
         })
     }
 
+    /// Clears the memory, and lays the parts out anew. The pointers stay. Nothing may be unread.
+    fn wipe(&mut self, kilobytes: [u8; 8])
+        requires { (n : ℕ) → slice_index self.old.unread n ≡ 0 }
+        ensures memory { self.new.memory.items ≡ replicate 16384 0 }
+        ensures kilobytes { self.new.layout.kilobytes ≡ kilobytes }
+        ensures pointers { (self.new.unread ≡ self.old.unread) × (self.new.ends ≡ self.old.ends) × (self.new.reads ≡ self.old.reads) }
+    {
+        self.memory.fill(0);
+        self.layout = Layout::new(kilobytes);
+    }
+
     /// Gives the buffers other sizes, which clears the memory. Nothing may be unread.
     pub fn set_sizes(&mut self, kilobytes: [u8; 8])
         requires { (n : ℕ) → n < 8 → slice_index self.old.unread n ≡ 0 }
@@ -71,8 +82,7 @@ impl Receives {
         if self.layout.kilobytes == kilobytes {
             return;
         }
-        self.memory.fill(0);
-        self.layout = Layout::new(kilobytes);
+        self.wipe(kilobytes);
     }
 
     /// Makes all as it was at first.
@@ -81,11 +91,10 @@ impl Receives {
         ensures memory { self.new.memory.items ≡ replicate 16384 0 }
         ensures kilobytes { self.new.layout.kilobytes ≡ replicate 8 2 }
     {
-        self.memory.fill(0);
-        self.layout = Layout::new([2; 8]);
         self.unread = [0; 8];
         self.ends = [0; 8];
         self.reads = [0; 8];
+        self.wipe([2; 8]);
     }
 
     /// Begins a life or a connection: nothing is unread, and both pointers stand here.

@@ -115,6 +115,7 @@ impl Rings {
         ensures err { IfErr result (λ e. (self.new ≡ self.old) × ((s : Sending) → TxHolds self.old sn s → ((j : ℕ) × (in_flight_at s addr ≡ Some j)) × (e ≡ ChipStop.OverwriteInFlight sn (addr % s.size)))) }
         ensures others { OthersSend self.old self.new sn }
         ensures memory { (at : ℕ) → at ≢ tx_place self.old sn addr → slice_index (tx_memory self.new) at ≡ slice_index (tx_memory self.old) at }
+        ensures none { slice_index (tx_sizes self.old) sn ≡ 0 → self.new ≡ self.old }
         ensures sizes { tx_kilobytes self.new ≡ tx_kilobytes self.old }
         ensures rx { SameRx self.old self.new }
     {
@@ -138,6 +139,16 @@ impl Rings {
         self.tx.commit(sn)
     }
 
+    /// How many bytes are in flight, at most 16,384.
+    #[inline]
+    pub fn flight(&self, sn: u8) -> u32
+        requires { sn < 8 }
+        ensures value { result ≡ flight_of self.now sn }
+        ensures stands { (s : Sending) → TxHolds self.now sn s → result ≡ s.flight }
+    {
+        u32::from(self.tx.flights[sn as usize])
+    }
+
     /// Lends the bytes in flight, in order, in at most two pieces of the memory. A stream sends the first of them; a
     /// datagram is both.
     pub fn offer(&self, sn: u8) -> (&[u8], &[u8])
@@ -146,6 +157,7 @@ impl Rings {
         ensures first { (s : Sending) → TxHolds self.now sn s → length result.0.now ≡ offered_length s }
         ensures pieces { 0 < slice_index (tx_sizes self.now) sn → (result.0.now ≡ first_piece self.now sn) × (result.1.now ≡ second_piece self.now sn) }
         ensures nothing { slice_index (tx_sizes self.now) sn ≡ 0 → (result.0.now ≡ []) × (result.1.now ≡ []) }
+        ensures len { length result.0.now + length result.1.now ≡ flight_of self.now sn }
     {
         self.tx.offer(sn)
     }
@@ -171,6 +183,17 @@ impl Rings {
         ensures { (g : Receiving) → RxHolds self.now sn g → result ≡ rx_byte g addr }
     {
         self.rx.rx_read(sn, addr)
+    }
+
+    /// How many bytes of an RX buffer are free, at most 16,384.
+    #[inline]
+    pub fn free(&self, sn: u8) -> u32
+        requires { sn < 8 }
+        ensures value { result ≡ rx_free self.now sn }
+        ensures stands { (g : Receiving) → RxHolds self.now sn g → result ≡ receiving.free_size g }
+    {
+        let at = sn as usize;
+        u32::from(self.rx.layout.sizes[at] - self.rx.unread[at])
     }
 
     /// Lends the first free piece of an RX buffer, at most 1,472 bytes, to be read into; empty where nothing is free.

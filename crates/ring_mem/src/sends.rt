@@ -1,6 +1,6 @@
 //! The sending side of the eight sockets.
 
-ghost use Rattle.std.specs.Prelude.{◌≡◌, ◌≢◌, ◌≤◌, ◌<◌, ◌+◌, ◌-◌, ◌%◌, ◌++◌, [], ℕ, Some, None, IfOk, IfErr, length, vec_len, slice_index, nat_lt, replicate};
+ghost use Rattle.std.specs.Prelude.{◌≡◌, ◌≢◌, ◌≤◌, ◌<◌, ◌+◌, ◌-◌, ◌%◌, ◌++◌, [], ℕ, false, Some, None, IfOk, IfErr, length, vec_len, slice_index, nat_lt, replicate};
 ghost use Rattle.chip_sheet.specs.Sizes.{size_among};
 ghost use Rattle.chip_sheet.specs.Sending.{Sending, in_flight_at, after_write, after_commit, after_taken, range_length, free_size, in_flight, offered_length, after_empty, after_begin, after_resize, after_pointer, passes_end, tx_pointer, fresh};
 ghost use Rattle.ring_mem.specs.Marks.{Marked, Cleared, any_marked};
@@ -83,6 +83,19 @@ impl Sends {
         })
     }
 
+    /// Clears the memory and the marks, and lays the parts out anew. The pointers stay. Nothing may be in flight.
+    fn wipe(&mut self, kilobytes: [u8; 8])
+        requires { (n : ℕ) → slice_index self.old.flights n ≡ 0 }
+        ensures memory { self.new.memory.items ≡ replicate 16384 0 }
+        ensures marks { self.new.marks.items ≡ replicate 16384 false }
+        ensures kilobytes { self.new.layout.kilobytes ≡ kilobytes }
+        ensures pointers { (self.new.flights ≡ self.old.flights) × (self.new.ends ≡ self.old.ends) × (self.new.written ≡ self.old.written) }
+    {
+        self.memory.fill(0);
+        self.marks.fill(false);
+        self.layout = Layout::new(kilobytes);
+    }
+
     /// Gives the buffers other sizes, which clears the memory. Nothing may be in flight.
     pub fn set_sizes(&mut self, kilobytes: [u8; 8])
         requires { (n : ℕ) → n < 8 → slice_index self.old.flights n ≡ 0 }
@@ -94,9 +107,7 @@ impl Sends {
         if self.layout.kilobytes == kilobytes {
             return;
         }
-        self.memory.fill(0);
-        self.marks.fill(false);
-        self.layout = Layout::new(kilobytes);
+        self.wipe(kilobytes);
     }
 
     /// Makes all as it was at first.
@@ -105,12 +116,10 @@ impl Sends {
         ensures memory { self.new.memory.items ≡ replicate 16384 0 }
         ensures kilobytes { self.new.layout.kilobytes ≡ replicate 8 2 }
     {
-        self.memory.fill(0);
-        self.marks.fill(false);
-        self.layout = Layout::new([2; 8]);
         self.flights = [0; 8];
         self.ends = [0; 8];
         self.written = [0; 8];
+        self.wipe([2; 8]);
     }
 
     /// Begins a life or a connection: nothing is in flight, and both pointers stand here.
@@ -159,6 +168,7 @@ impl Sends {
         ensures err { IfErr result (λ e. (self.new ≡ self.old) × ((s : Sending) → Holds self.old sn s → ((j : ℕ) × (in_flight_at s addr ≡ Some j)) × (e ≡ ChipStop.OverwriteInFlight sn (addr % s.size)))) }
         ensures others { (n : ℕ) (s : Sending) → n < 8 → n ≢ sn → Holds self.old n s → Holds self.new n s }
         ensures memory { (at : ℕ) → at ≢ place_of self.old.layout sn addr → slice_index self.new.memory.items at ≡ slice_index self.old.memory.items at }
+        ensures none { slice_index self.old.layout.sizes sn ≡ 0 → self.new ≡ self.old }
         ensures layout { self.new.layout ≡ self.old.layout }
     {
         let size = self.layout.sizes[sn as usize];
@@ -211,6 +221,7 @@ impl Sends {
         ensures first { (s : Sending) → Holds self.now sn s → length result.0.now ≡ offered_length s }
         ensures pieces { 0 < slice_index self.now.layout.sizes sn → (result.0.now ≡ first_piece self.now sn) × (result.1.now ≡ second_piece self.now sn) }
         ensures nothing { slice_index self.now.layout.sizes sn ≡ 0 → (result.0.now ≡ []) × (result.1.now ≡ []) }
+        ensures len { length result.0.now + length result.1.now ≡ slice_index self.now.flights sn }
     {
         let size = self.layout.sizes[sn as usize];
         if size == 0 {
