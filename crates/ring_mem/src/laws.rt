@@ -14,14 +14,12 @@ pub fn parts_follow_one_another()
     ensures tx_starts { (r : Rings) (n : ℕ) → n < 8 → tx_start r n ≡ sum_below (tx_sizes r) n }
     ensures rx_starts { (r : Rings) (n : ℕ) → n < 8 → rx_start r n ≡ sum_below (rx_sizes r) n }
     ensures fit { (r : Rings) → (sum_below (tx_sizes r) 8 ≤ 16384) × (sum_below (rx_sizes r) 8 ≤ 16384) }
-{
-}
+{}
 
 /// A pointer and the position that it shows name one place of a buffer.
 pub fn same_place()
     ensures { (size at : ℕ) → IsSize size → 0 < size → at % 65536 % size ≡ at % size }
-{
-}
+{}
 
 /// A write into the room of one socket leaves what every socket stands for, and the room then has what was written.
 pub fn lent_room()
@@ -29,8 +27,7 @@ pub fn lent_room()
     ensures rx { (r : Rings) (n m : ℕ) (g : Receiving) (w : List ℕ) → n < 8 → m < 8 → RxHolds r m g → length w ≡ room_len r n → RxHolds (with_room r n w) m g }
     ensures tx { (r : Rings) (n m : ℕ) (s : Sending) (w : List ℕ) → TxHolds r m s → TxHolds (with_room r n w) m s }
     ensures bytes { (r : Rings) (n : ℕ) (w : List ℕ) → n < 8 → length w ≡ room_len r n → room_bytes (with_room r n w) n ≡ w }
-{
-}
+{}
 
 /// Eight sockets at once: where a call changes the lists of one and the others stand, all eight stand for the lists with that
 /// one changed.
@@ -41,5 +38,4 @@ pub fn one_of_eight_changes()
     ensures rx { (old new : Rings) (gs : ℕ → Receiving) (sn : ℕ) (g : Receiving) → RxHolds new sn g
         → ((n : ℕ) (t : Receiving) → n < 8 → n ≢ sn → RxHolds old n t → RxHolds new n t)
         → ((n : ℕ) → n < 8 → RxHolds old n (gs n)) → (n : ℕ) → n < 8 → RxHolds new n (if n == sn then g else gs n) }
-{
-}
+{}

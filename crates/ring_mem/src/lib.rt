@@ -15,3 +15,5 @@ mod pointers;
 mod receives;
 pub mod rings;
 mod sends;
+#[cfg(test)]
+mod tests;
