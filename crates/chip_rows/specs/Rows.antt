@@ -3,8 +3,8 @@
 use Prim.Native.String.{String}
 use Rattle.std.specs.Prelude.{◌≡◌, ℕ, ◌+◌, ◌/◌, ◌%◌, zero, suc, nat_lt, List, [], ◌∷◌, ◌++◌, Option, None, Some, Result, Ok, Err, codes, if◌then◌else◌}
 use Rattle.std.specs.List.{filter_map, join_with_byte}
-use Rattle.chip_sheet.specs.declared.event.BusAnswer.{BusAnswer}
-use Rattle.chip_sheet.specs.declared.event.BusAnswer.TheVariants.{Done, Out, Level}
+use Rattle.board_bus.specs.declared.event.BusAnswer.{BusAnswer}
+use Rattle.board_bus.specs.declared.event.BusAnswer.TheVariants.{Done, Out, Level}
 use Rattle.chip_sheet.specs.declared.socket.Due.{Due}
 use Rattle.chip_sheet.specs.declared.stop.ChipStop.{ChipStop}
 use Rattle.chip_sheet.specs.Past.{Past}
