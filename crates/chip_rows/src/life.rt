@@ -14,7 +14,8 @@ pub fn shows_each_status()
     ensures listens { Prints (
         opened_7
         ∷ "L 00 01 EC 02 H L 00 03 E8 00 H" prints "00 00 00 00 00 00 00 14"
-        ∷ "@7:accepted:10.0.0.2:40000 L 00 03 E8 00 H @7:ended L 00 03 E8 00 H" prints "00 00 00 17 00 00 00 1C"
+        ∷ "@7:accepted:10.0.0.2:40000 L 00 03 E8 00 H @7:ended" prints "00 00 00 17"
+        ∷ "L 00 03 E8 00 H" prints "00 00 00 1C"
         ∷ "L 00 01 EC 08 H L 00 03 E8 00 H @7:shut L 00 03 E8 00 H" prints "00 00 00 00 00 00 00 1D 00 00 00 00"
         ∷ []) }
 {}
@@ -22,22 +23,19 @@ pub fn shows_each_status()
 /// OPEN does nothing with a protocol that is none of the chip's; the bits above the protocol are no part of it.
 pub fn opens_for_tcp_alone()
     ensures { Prints (
-        "L 00 00 0C 00 H L 00 01 0C 01 H L 00 03 08 00 H L 00 00 0C 03 H L 00 01 0C 01 H L 00 03 08 00 H" prints "00 00 00 00 00 00 00 00 00 00 00 00 00 00 00 00 00 00 00 00 00 00 00 00"
+        "L 00 00 0C 00 H L 00 01 0C 01 H L 00 03 08 00 H L 00 00 0C 03 H" prints "00 00 00 00 00 00 00 00 00 00 00 00 00 00 00 00"
+        ∷ "L 00 01 0C 01 H L 00 03 08 00 H" prints "00 00 00 00 00 00 00 00"
         ∷ "L 00 00 0C F1 H L 00 01 0C 01 H L 00 03 08 00 H" prints "00 00 00 00 00 00 00 00 00 00 00 13"
         ∷ []) }
 {}
 
-/// A refused connection closes the socket and raises no bit.
-pub fn refused_connection()
-    ensures { Prints (
+/// A refused connection closes the socket and raises no bit; one that nobody answers closes it and raises TIMEOUT.
+pub fn ends_without_a_connection()
+    ensures refused { Prints (
         opened
         ∷ "L 00 01 0C 04 H @0:refused L 00 02 08 00 00 H" prints "00 00 00 00 00 00 00 00 00"
         ∷ []) }
-{}
-
-/// A connection that nobody answers closes the socket and raises TIMEOUT.
-pub fn timed_out_connection()
-    ensures { Prints (
+    ensures timed_out { Prints (
         opened
         ∷ "L 00 01 0C 04 H @0:timedout L 00 02 08 00 00 H" prints "00 00 00 00 00 00 00 08 00"
         ∷ []) }
@@ -45,7 +43,7 @@ pub fn timed_out_connection()
 
 /// CLOSE ends every status at once and raises no bit: here INIT, LISTEN, SYNSENT, ESTABLISHED, CLOSE_WAIT, FIN_WAIT and
 /// LAST_ACK.
-pub fn closes_from_init()
+pub fn closes_at_once()
     ensures init { Prints (opened ∷ "L 00 01 0C 10 H L 00 02 08 00 00 H" prints "00 00 00 00 00 00 00 00 00" ∷ []) }
     ensures listen { Prints (
         opened
@@ -74,7 +72,8 @@ pub fn closes_from_init()
 pub fn closes_a_connection()
     ensures { Prints (
         connected
-        ∷ "@0:got:0102 L 00 24 0C 00 03 H L 00 01 0C 20 H L 00 20 08 00 00 H L 00 26 08 00 00 H" prints "00 00 00 00 00 00 00 00 00 00 00 00 07 FD 00 00 00 00 02"
+        ∷ "@0:got:0102 L 00 24 0C 00 03 H L 00 01 0C 20 H L 00 20 08 00 00 H" prints "00 00 00 00 00 00 00 00 00 00 00 00 07 FD"
+        ∷ "L 00 26 08 00 00 H" prints "00 00 00 00 02"
         ∷ "L 00 01 0C 10 H L 00 20 08 00 00 00 00 00 00 00 00 00 00 00 00 H" prints "00 00 00 00 00 00 00 08 00 00 03 00 03 00 00 00 00 00 02"
         ∷ []) }
 {}
@@ -83,20 +82,27 @@ pub fn closes_a_connection()
 /// CLOSE_WAIT, OPEN takes CLOSED.
 pub fn ignores_what_does_not_fit()
     ensures listen { Prints (
-        "L 00 00 0C 01 H L 00 01 0C 02 H L 00 01 0C 04 H L 00 01 0C 08 H L 00 01 0C 10 H L 00 02 08 00 00 H" prints "00 00 00 00 00 00 00 00 00 00 00 00 00 00 00 00 00 00 00 00 00 00 00 00 00"
+        "L 00 00 0C 01 H L 00 01 0C 02 H L 00 01 0C 04 H L 00 01 0C 08 H" prints "00 00 00 00 00 00 00 00 00 00 00 00 00 00 00 00"
+        ∷ "L 00 01 0C 10 H L 00 02 08 00 00 H" prints "00 00 00 00 00 00 00 00 00"
         ∷ "L 00 01 0C 01 H L 00 01 0C 01 H L 00 01 0C 08 H L 00 02 08 00 00 H" prints "00 00 00 00 00 00 00 00 00 00 00 00 00 00 00 00 13"
-        ∷ "L 00 01 0C 02 H L 00 01 0C 01 H L 00 01 0C 04 H L 00 01 0C 08 H L 00 02 08 00 00 H" prints "00 00 00 00 00 00 00 00 00 00 00 00 00 00 00 00 00 00 00 00 14"
+        ∷ "L 00 01 0C 02 H L 00 01 0C 01 H L 00 01 0C 04 H L 00 01 0C 08 H" prints "00 00 00 00 00 00 00 00 00 00 00 00 00 00 00 00"
+        ∷ "L 00 02 08 00 00 H" prints "00 00 00 00 14"
         ∷ []) }
     ensures connect { Prints (
         opened
-        ∷ "L 00 01 0C 04 H L 00 01 0C 01 H L 00 01 0C 02 H L 00 01 0C 08 H L 00 02 08 00 00 H" prints "00 00 00 00 00 00 00 00 00 00 00 00 00 00 00 00 00 00 00 00 15"
-        ∷ "@0:linked L 00 01 0C 01 H L 00 01 0C 02 H L 00 01 0C 04 H L 00 02 08 00 00 H" prints "00 00 00 00 00 00 00 00 00 00 00 00 00 00 00 01 17"
-        ∷ "L 00 01 0C 08 H L 00 01 0C 08 H L 00 01 0C 01 H L 00 01 0C 02 H L 00 01 0C 04 H L 00 02 08 00 00 H" prints "00 00 00 00 00 00 00 00 00 00 00 00 00 00 00 00 00 00 00 00 00 00 00 01 18"
+        ∷ "L 00 01 0C 04 H L 00 01 0C 01 H L 00 01 0C 02 H L 00 01 0C 08 H" prints "00 00 00 00 00 00 00 00 00 00 00 00 00 00 00 00"
+        ∷ "L 00 02 08 00 00 H" prints "00 00 00 00 15"
+        ∷ "@0:linked L 00 01 0C 01 H L 00 01 0C 02 H L 00 01 0C 04 H" prints "00 00 00 00 00 00 00 00 00 00 00 00"
+        ∷ "L 00 02 08 00 00 H" prints "00 00 00 01 17"
+        ∷ "L 00 01 0C 08 H L 00 01 0C 08 H L 00 01 0C 01 H L 00 01 0C 02 H" prints "00 00 00 00 00 00 00 00 00 00 00 00 00 00 00 00"
+        ∷ "L 00 01 0C 04 H L 00 02 08 00 00 H" prints "00 00 00 00 00 00 00 01 18"
         ∷ []) }
     ensures peer_first { Prints (
         connected
-        ∷ "@0:ended L 00 01 0C 01 H L 00 01 0C 02 H L 00 01 0C 04 H L 00 02 08 00 00 H" prints "00 00 00 00 00 00 00 00 00 00 00 00 00 00 00 03 1C"
-        ∷ "L 00 01 0C 08 H L 00 01 0C 08 H L 00 01 0C 01 H L 00 01 0C 02 H L 00 01 0C 04 H L 00 02 08 00 00 H" prints "00 00 00 00 00 00 00 00 00 00 00 00 00 00 00 00 00 00 00 00 00 00 00 03 1D"
+        ∷ "@0:ended L 00 01 0C 01 H L 00 01 0C 02 H L 00 01 0C 04 H" prints "00 00 00 00 00 00 00 00 00 00 00 00"
+        ∷ "L 00 02 08 00 00 H" prints "00 00 00 03 1C"
+        ∷ "L 00 01 0C 08 H L 00 01 0C 08 H L 00 01 0C 01 H L 00 01 0C 02 H" prints "00 00 00 00 00 00 00 00 00 00 00 00 00 00 00 00"
+        ∷ "L 00 01 0C 04 H L 00 02 08 00 00 H" prints "00 00 00 00 00 00 00 03 1D"
         ∷ []) }
 {}
 
@@ -104,7 +110,8 @@ pub fn ignores_what_does_not_fit()
 pub fn ignores_other_commands()
     ensures { Prints (
         connected
-        ∷ "L 00 01 0C 22 H L 00 01 0C 00 H L 00 01 0C 03 H L 00 01 0C FF H L 00 01 08 00 00 00 H" prints "00 00 00 00 00 00 00 00 00 00 00 00 00 00 00 00 00 00 00 00 01 17"
+        ∷ "L 00 01 0C 22 H L 00 01 0C 00 H L 00 01 0C 03 H L 00 01 0C FF H" prints "00 00 00 00 00 00 00 00 00 00 00 00 00 00 00 00"
+        ∷ "L 00 01 08 00 00 00 H" prints "00 00 00 00 01 17"
         ∷ []) }
 {}
 
@@ -164,11 +171,13 @@ pub fn fails()
         ∷ []) }
     ensures write_in_close_wait { Prints (
         connected_7
-        ∷ "L 00 25 EC 02 H L 00 01 EC 20 H @7:ended @7:failed L 00 02 E8 00 00 H" prints "00 00 00 00 00 00 00 00 00 00 00 0B 00"
+        ∷ "L 00 25 EC 02 H L 00 01 EC 20 H @7:ended @7:failed" prints "00 00 00 00 00 00 00 00"
+        ∷ "L 00 02 E8 00 00 H" prints "00 00 00 0B 00"
         ∷ []) }
     ensures write_in_last_ack { Prints (
         connected_7
-        ∷ "L 00 25 EC 02 H L 00 01 EC 20 H @7:ended L 00 01 EC 08 H @7:failed L 00 02 E8 00 00 H" prints "00 00 00 00 00 00 00 00 00 00 00 00 00 00 00 0B 00"
+        ∷ "L 00 25 EC 02 H L 00 01 EC 20 H @7:ended L 00 01 EC 08 H @7:failed" prints "00 00 00 00 00 00 00 00 00 00 00 00"
+        ∷ "L 00 02 E8 00 00 H" prints "00 00 00 0B 00"
         ∷ []) }
     ensures shut_in_last_ack { Prints (
         connected_7
@@ -194,14 +203,16 @@ pub fn fails_nowhere_else()
 pub fn writes_in_last_ack()
     ensures goes_on { Prints (
         connected_7
-        ∷ "L 00 00 F4 68 69 H L 00 25 EC 02 H L 00 01 EC 20 H @7:ended L 00 01 EC 08 H L 00 02 E8 00 00 H L 00 20 E8 00 00 H" prints "00 00 00 00 00 00 00 00 00 00 00 00 00 00 00 00 00 00 00 00 03 1D 00 00 00 07 FE"
+        ∷ "L 00 00 F4 68 69 H L 00 25 EC 02 H L 00 01 EC 20 H @7:ended" prints "00 00 00 00 00 00 00 00 00 00 00 00 00"
+        ∷ "L 00 01 EC 08 H L 00 02 E8 00 00 H L 00 20 E8 00 00 H" prints "00 00 00 00 00 00 00 03 1D 00 00 00 07 FE"
         ∷ "@7:took:1 L 00 02 E8 00 00 H L 00 20 E8 00 00 H" prints "00 00 00 03 1D 00 00 00 07 FF"
         ∷ "@7:took:1 L 00 02 E8 00 00 H L 00 20 E8 00 00 H" prints "00 00 00 13 1D 00 00 00 08 00"
         ∷ "@7:shut L 00 02 E8 00 00 H" prints "00 00 00 13 00"
         ∷ []) }
     ensures shut_waits { IsNotDue (
         connected_7
-        ∷ "L 00 00 F4 68 69 H L 00 25 EC 02 H L 00 01 EC 20 H @7:ended L 00 01 EC 08 H L 00 03 E8 00 H @7:shut" prints "00 00 00 00 00 00 00 00 00 00 00 00 00 00 00 00 00 00 00 00 1D"
+        ∷ "L 00 00 F4 68 69 H L 00 25 EC 02 H L 00 01 EC 20 H @7:ended" prints "00 00 00 00 00 00 00 00 00 00 00 00 00"
+        ∷ "L 00 01 EC 08 H L 00 03 E8 00 H @7:shut" prints "00 00 00 00 00 00 00 1D"
         ∷ []) }
 {}
 
@@ -209,13 +220,16 @@ pub fn writes_in_last_ack()
 pub fn writes_in_fin_wait()
     ensures goes_on { Prints (
         connected_7
-        ∷ "@7:got:0102 L 00 00 F4 68 69 H L 00 25 EC 02 H L 00 01 EC 20 H L 00 01 EC 08 H L 00 02 E8 00 00 H L 00 20 E8 00 00 H" prints "00 00 00 00 00 00 00 00 00 00 00 00 00 00 00 00 00 00 00 00 05 18 00 00 00 07 FE"
+        ∷ "@7:got:0102 L 00 00 F4 68 69 H L 00 25 EC 02 H L 00 01 EC 20 H" prints "00 00 00 00 00 00 00 00 00 00 00 00 00"
+        ∷ "L 00 01 EC 08 H L 00 02 E8 00 00 H L 00 20 E8 00 00 H" prints "00 00 00 00 00 00 00 05 18 00 00 00 07 FE"
         ∷ "@7:took:2 L 00 02 E8 00 00 H L 00 20 E8 00 00 H L 00 26 E8 00 00 H" prints "00 00 00 15 18 00 00 00 08 00 00 00 00 00 02"
-        ∷ "L 00 29 EC 01 H L 00 01 EC 40 H L 00 26 E8 00 00 H L 00 00 F8 00 00 H" prints "00 00 00 00 00 00 00 00 00 00 00 00 01 00 00 00 00 02"
+        ∷ "L 00 29 EC 01 H L 00 01 EC 40 H L 00 26 E8 00 00 H" prints "00 00 00 00 00 00 00 00 00 00 00 00 01"
+        ∷ "L 00 00 F8 00 00 H" prints "00 00 00 00 02"
         ∷ []) }
     ensures shut_waits { IsNotDue (
         connected_7
-        ∷ "L 00 00 F4 68 69 H L 00 25 EC 02 H L 00 01 EC 20 H L 00 01 EC 08 H L 00 03 E8 00 H @7:shut" prints "00 00 00 00 00 00 00 00 00 00 00 00 00 00 00 00 00 00 00 00 18"
+        ∷ "L 00 00 F4 68 69 H L 00 25 EC 02 H L 00 01 EC 20 H L 00 01 EC 08 H" prints "00 00 00 00 00 00 00 00 00 00 00 00 00 00 00 00 00"
+        ∷ "L 00 03 E8 00 H @7:shut" prints "00 00 00 18"
         ∷ []) }
 {}
 

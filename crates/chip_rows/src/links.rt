@@ -24,21 +24,25 @@ pub fn keeps_an_old_life()
     ensures accept { IsNotDue (
         opened
         ∷ "L 00 01 0C 04 H L 00 01 0C 10 H" prints "00 00 00 00 00 00 00 00"
-        ∷ "L 00 01 0C 01 H L 00 01 0C 02 H L 00 03 08 00 H @0:accepted:10.0.0.2:40000" prints "00 00 00 00 00 00 00 00 00 00 00 14"
+        ∷ "L 00 01 0C 01 H L 00 01 0C 02 H L 00 03 08 00 H" prints "00 00 00 00 00 00 00 00 00 00 00 14"
+        ∷ "@0:accepted:10.0.0.2:40000" prints ""
         ∷ []) }
     ensures behind { Prints (
         opened
         ∷ "L 00 01 0C 04 H L 00 01 0C 10 H" prints "00 00 00 00 00 00 00 00"
-        ∷ "L 00 01 0C 01 H L 00 01 0C 04 H @0:dropped @0:linked L 00 03 08 00 H" prints "00 00 00 00 00 00 00 00 00 00 00 17"
+        ∷ "L 00 01 0C 01 H L 00 01 0C 04 H @0:dropped @0:linked" prints "00 00 00 00 00 00 00 00"
+        ∷ "L 00 03 08 00 H" prints "00 00 00 17"
         ∷ []) }
     ensures once { IsNotDue (
         opened
-        ∷ "L 00 01 0C 04 H L 00 01 0C 10 H @0:dropped L 00 03 08 00 H @0:dropped" prints "00 00 00 00 00 00 00 00 00 00 00 00"
+        ∷ "L 00 01 0C 04 H L 00 01 0C 10 H @0:dropped L 00 03 08 00 H" prints "00 00 00 00 00 00 00 00 00 00 00 00"
+        ∷ "@0:dropped" prints ""
         ∷ []) }
     ensures other_socket { Prints (
         opened
         ∷ "L 00 01 0C 04 H L 00 01 0C 10 H" prints "00 00 00 00 00 00 00 00"
-        ∷ "L 00 00 2C 01 H L 00 01 2C 01 H L 00 01 2C 04 H @1:linked L 00 03 28 00 H" prints "00 00 00 00 00 00 00 00 00 00 00 00 00 00 00 17"
+        ∷ "L 00 00 2C 01 H L 00 01 2C 01 H L 00 01 2C 04 H @1:linked" prints "00 00 00 00 00 00 00 00 00 00 00 00"
+        ∷ "L 00 03 28 00 H" prints "00 00 00 17"
         ∷ []) }
 {}
 

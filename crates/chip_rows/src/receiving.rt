@@ -13,9 +13,11 @@ pub fn receives()
         ∷ "@0:got:48656C6C6F L 00 02 08 00 H L 00 26 08 00 00 H" prints "00 00 00 05 00 00 00 00 05"
         ∷ "L 00 00 18 00 00 00 00 00 00 H" prints "00 00 00 48 65 6C 6C 6F 00"
         ∷ "L 00 02 0C 04 H L 00 02 08 00 H" prints "00 00 00 00 00 00 00 01"
-        ∷ "L 00 28 0C 00 02 H L 00 01 0C 40 H L 00 02 08 00 H L 00 26 08 00 00 H" prints "00 00 00 00 00 00 00 00 00 00 00 00 05 00 00 00 00 03"
+        ∷ "L 00 28 0C 00 02 H L 00 01 0C 40 H L 00 02 08 00 H" prints "00 00 00 00 00 00 00 00 00 00 00 00 05"
+        ∷ "L 00 26 08 00 00 H" prints "00 00 00 00 03"
         ∷ "L 00 00 18 00 00 00 H" prints "00 00 00 00 00 6C"
-        ∷ "L 00 02 0C 04 H L 00 29 0C 05 H L 00 01 0C 40 H L 00 02 08 00 H L 00 26 08 00 00 H" prints "00 00 00 00 00 00 00 00 00 00 00 00 00 00 00 01 00 00 00 00 00"
+        ∷ "L 00 02 0C 04 H L 00 29 0C 05 H L 00 01 0C 40 H L 00 02 08 00 H" prints "00 00 00 00 00 00 00 00 00 00 00 00 00 00 00 01"
+        ∷ "L 00 26 08 00 00 H" prints "00 00 00 00 00"
         ∷ []) }
 {}
 
@@ -37,14 +39,16 @@ pub fn raises_again()
         connected
         ∷ "@0:got:01 L 00 02 0C 04 H L 00 02 08 00 H" prints "00 00 00 00 00 00 00 01"
         ∷ "L 00 01 0C 40 H L 00 02 08 00 H" prints "00 00 00 00 00 00 00 05"
-        ∷ "L 00 29 0C 01 H L 00 01 0C 40 H L 00 02 0C 04 H L 00 01 0C 40 H L 00 02 08 00 H" prints "00 00 00 00 00 00 00 00 00 00 00 00 00 00 00 00 00 00 00 01"
+        ∷ "L 00 29 0C 01 H L 00 01 0C 40 H L 00 02 0C 04 H L 00 01 0C 40 H" prints "00 00 00 00 00 00 00 00 00 00 00 00 00 00 00 00"
+        ∷ "L 00 02 08 00 H" prints "00 00 00 01"
         ∷ []) }
 {}
 
 /// RECV does nothing in CLOSED, INIT, LISTEN and SYNSENT, whatever RX_RD holds; it releases in CLOSE_WAIT and LAST_ACK.
 pub fn receives_in_each_status()
     ensures listen { Prints (
-        "L 00 29 0C 09 H L 00 01 0C 40 H L 00 00 0C 01 H L 00 01 0C 01 H L 00 29 0C 09 H L 00 01 0C 40 H L 00 02 08 00 00 H" prints "00 00 00 00 00 00 00 00 00 00 00 00 00 00 00 00 00 00 00 00 00 00 00 00 00 00 00 00 13"
+        "L 00 29 0C 09 H L 00 01 0C 40 H L 00 00 0C 01 H L 00 01 0C 01 H" prints "00 00 00 00 00 00 00 00 00 00 00 00 00 00 00 00"
+        ∷ "L 00 29 0C 09 H L 00 01 0C 40 H L 00 02 08 00 00 H" prints "00 00 00 00 00 00 00 00 00 00 00 00 13"
         ∷ "L 00 01 0C 02 H L 00 01 0C 40 H L 00 02 08 00 00 H" prints "00 00 00 00 00 00 00 00 00 00 00 00 14"
         ∷ []) }
     ensures connect { Prints (
@@ -53,8 +57,10 @@ pub fn receives_in_each_status()
         ∷ []) }
     ensures behind_the_end { Prints (
         connected
-        ∷ "@0:got:010203 @0:ended L 00 29 0C 01 H L 00 01 0C 40 H L 00 26 08 00 00 H" prints "00 00 00 00 00 00 00 00 00 00 00 00 02"
-        ∷ "L 00 01 0C 08 H L 00 29 0C 03 H L 00 01 0C 40 H L 00 26 08 00 00 H L 00 03 08 00 H" prints "00 00 00 00 00 00 00 00 00 00 00 00 00 00 00 00 00 00 00 00 1D"
+        ∷ "@0:got:010203 @0:ended L 00 29 0C 01 H L 00 01 0C 40 H" prints "00 00 00 00 00 00 00 00"
+        ∷ "L 00 26 08 00 00 H" prints "00 00 00 00 02"
+        ∷ "L 00 01 0C 08 H L 00 29 0C 03 H L 00 01 0C 40 H L 00 26 08 00 00 H" prints "00 00 00 00 00 00 00 00 00 00 00 00 00 00 00 00 00"
+        ∷ "L 00 03 08 00 H" prints "00 00 00 1D"
         ∷ []) }
 {}
 
@@ -122,7 +128,8 @@ pub fn keeps_the_received()
     ensures { Prints (
         connected
         ∷ connected_7
-        ∷ "@0:got:0102 @7:got:0304 L 00 00 1C 09 09 09 H L 00 00 FC 09 09 09 H" prints "00 00 00 00 00 00 00 00 00 00 00 00"
+        ∷ "@0:got:0102 @7:got:0304 L 00 00 1C 09 09 09 H" prints "00 00 00 00 00 00"
+        ∷ "L 00 00 FC 09 09 09 H" prints "00 00 00 00 00 00"
         ∷ "L 00 00 18 00 00 00 H L 00 00 F8 00 00 00 H L 00 00 78 00 00 00 H" prints "00 00 00 01 02 00 00 00 00 03 04 00 00 00 00 00 00 00"
         ∷ "L 00 26 08 00 00 H L 00 26 E8 00 00 H" prints "00 00 00 00 02 00 00 00 00 02"
         ∷ []) }
@@ -138,6 +145,7 @@ pub fn stops_a_far_release()
     ensures backwards { Stops (
         "start 0 1" prints ""
         ∷ connected_7
-        ∷ "@7:got:0102 L 00 29 EC 02 H L 00 01 EC 40 H L 00 29 EC 01 H L 00 01 EC 40" prints "00 00 00 00 00 00 00 00 00 00 00 00 00 00 00"
+        ∷ "@7:got:0102 L 00 29 EC 02 H L 00 01 EC 40 H L 00 29 EC 01 H" prints "00 00 00 00 00 00 00 00 00 00 00 00"
+        ∷ "L 00 01 EC 40" prints "00 00 00"
         ∷ []) (RecvPastEnd 7 65535 1) }
 {}

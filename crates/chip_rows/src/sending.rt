@@ -37,20 +37,16 @@ pub fn sends_in_two_takes()
         ∷ []) }
 {}
 
-/// One bit stands for the ends of two ranges that are taken at once, and a write of 1 clears it.
-pub fn ends_two_ranges_at_once()
-    ensures { Prints (
+/// One bit stands for the ends of two ranges that are taken at once, and a write of 1 clears it. Taken in turn, each raises it.
+pub fn ends_two_ranges()
+    ensures at_once { Prints (
         connected
         ∷ "L 00 00 14 01 02 03 H L 00 24 0C 00 03 H L 00 01 0C 20 H" prints "00 00 00 00 00 00 00 00 00 00 00 00 00 00 00"
         ∷ "L 00 03 14 04 05 H L 00 24 0C 00 05 H L 00 01 0C 20 H" prints "00 00 00 00 00 00 00 00 00 00 00 00 00 00"
         ∷ "@0:took:5 L 00 02 08 00 H" prints "00 00 00 11"
         ∷ "L 00 02 0C 10 H L 00 02 08 00 H" prints "00 00 00 00 00 00 00 01"
         ∷ []) }
-{}
-
-/// A take past the end of the first of two ranges raises SENDOK, and that of the second raises it again.
-pub fn ends_two_ranges_in_turn()
-    ensures { Prints (
+    ensures in_turn { Prints (
         connected
         ∷ "L 00 25 0C 03 H L 00 01 0C 20 H L 00 25 0C 05 H L 00 01 0C 20 H" prints "00 00 00 00 00 00 00 00 00 00 00 00 00 00 00 00"
         ∷ "@0:took:4 L 00 02 08 00 H L 00 02 0C 10 H" prints "00 00 00 11 00 00 00 00"
@@ -62,46 +58,37 @@ pub fn ends_two_ranges_in_turn()
 pub fn tears_a_pair()
     ensures { Prints (
         connected
-        ∷ "L 00 00 14 01 02 03 04 05 06 07 08 H L 00 24 0C 00 08 H L 00 01 0C 20 H" prints "00 00 00 00 00 00 00 00 00 00 00 00 00 00 00 00 00 00 00 00"
+        ∷ "L 00 00 14 01 02 03 04 05 06 07 08 H L 00 24 0C 00 08 H" prints "00 00 00 00 00 00 00 00 00 00 00 00 00 00 00 00"
+        ∷ "L 00 01 0C 20 H" prints "00 00 00 00"
         ∷ "L 00 20 08 00 @0:took:8 00 H" prints "00 00 00 07 00"
         ∷ []) }
 {}
 
-/// The byte behind those in flight may be written, and the first of them may not.
+/// The byte behind those in flight may be written, and the first of them may not. Once it is taken its place may be written, and the
+/// second byte's may not. The stop names the place, the address modulo the size. Once the life has closed nothing is in flight.
 pub fn stops_an_overwrite()
-    ensures { Stops (
+    ensures first { Stops (
         connected
         ∷ "L 00 00 14 68 69 H L 00 24 0C 00 02 H L 00 01 0C 20 H" prints "00 00 00 00 00 00 00 00 00 00 00 00 00 00"
         ∷ "L 00 02 14 55 H" prints "00 00 00 00"
         ∷ "L 00 00 14 55" prints "00 00 00"
         ∷ []) (OverwriteInFlight 0 0) }
-{}
-
-/// The stop names the place, the address modulo the size: here on socket 7, at the last address of all.
-pub fn stops_a_mirrored_overwrite()
-    ensures { Stops (
-        "start 2047 0" prints ""
-        ∷ connected_7
-        ∷ "L 00 24 EC 08 00 H L 00 01 EC 20 H" prints "00 00 00 00 00 00 00 00 00"
-        ∷ "L 00 00 F4 55 H L FF FF F4 55" prints "00 00 00 00 00 00 00"
-        ∷ []) (OverwriteInFlight 7 2047) }
-{}
-
-/// Once the first byte is taken its place may be written, and the second byte's may not.
-pub fn frees_taken_places()
-    ensures { Stops (
+    ensures taken { Stops (
         connected
         ∷ "L 00 00 14 68 69 H L 00 24 0C 00 02 H L 00 01 0C 20 H" prints "00 00 00 00 00 00 00 00 00 00 00 00 00 00"
         ∷ "@0:took:1 L 00 00 14 55 H" prints "00 00 00 00"
         ∷ "L 00 01 14 55" prints "00 00 00"
         ∷ []) (OverwriteInFlight 0 1) }
-{}
-
-/// Once the life has closed nothing is in flight, and its places may be written.
-pub fn frees_a_closed_buffer()
-    ensures { Prints (
+    ensures place { Stops (
+        "start 2047 0" prints ""
+        ∷ connected_7
+        ∷ "L 00 24 EC 08 00 H L 00 01 EC 20 H" prints "00 00 00 00 00 00 00 00 00"
+        ∷ "L 00 00 F4 55 H L FF FF F4 55" prints "00 00 00 00 00 00 00"
+        ∷ []) (OverwriteInFlight 7 2047) }
+    ensures closed { Prints (
         connected
-        ∷ "L 00 00 14 68 69 H L 00 24 0C 00 02 H L 00 01 0C 20 H L 00 01 0C 10 H L 00 00 14 55 H L 00 00 10 00 00 H" prints "00 00 00 00 00 00 00 00 00 00 00 00 00 00 00 00 00 00 00 00 00 00 00 00 00 55 69"
+        ∷ "L 00 00 14 68 69 H L 00 24 0C 00 02 H L 00 01 0C 20 H" prints "00 00 00 00 00 00 00 00 00 00 00 00 00 00"
+        ∷ "L 00 01 0C 10 H L 00 00 14 55 H L 00 00 10 00 00 H" prints "00 00 00 00 00 00 00 00 00 00 00 55 69"
         ∷ []) }
 {}
 
@@ -129,26 +116,25 @@ pub fn sends_nothing()
 pub fn sends_nothing_elsewhere()
     ensures listen { Prints (
         opened
-        ∷ "L 00 25 0C 02 H L 00 01 0C 20 H L 00 02 08 00 H L 00 20 08 00 00 00 00 H" prints "00 00 00 00 00 00 00 00 00 00 00 00 00 00 00 08 00 00 00"
-        ∷ "L 00 01 0C 02 H L 00 01 0C 20 H L 00 02 08 00 H L 00 20 08 00 00 00 00 H" prints "00 00 00 00 00 00 00 00 00 00 00 00 00 00 00 08 00 00 00"
+        ∷ "L 00 25 0C 02 H L 00 01 0C 20 H L 00 02 08 00 H" prints "00 00 00 00 00 00 00 00 00 00 00 00"
+        ∷ "L 00 20 08 00 00 00 00 H" prints "00 00 00 08 00 00 00"
+        ∷ "L 00 01 0C 02 H L 00 01 0C 20 H L 00 02 08 00 H" prints "00 00 00 00 00 00 00 00 00 00 00 00"
+        ∷ "L 00 20 08 00 00 00 00 H" prints "00 00 00 08 00 00 00"
         ∷ []) }
     ensures connect { Prints (
         opened
-        ∷ "L 00 01 0C 04 H L 00 01 0C 20 H L 00 02 08 00 H L 00 20 08 00 00 00 00 H" prints "00 00 00 00 00 00 00 00 00 00 00 00 00 00 00 08 00 00 00"
+        ∷ "L 00 01 0C 04 H L 00 01 0C 20 H L 00 02 08 00 H" prints "00 00 00 00 00 00 00 00 00 00 00 00"
+        ∷ "L 00 20 08 00 00 00 00 H" prints "00 00 00 08 00 00 00"
         ∷ []) }
     ensures last_ack { Prints (
         connected
-        ∷ "@0:ended L 00 01 0C 08 H L 00 25 0C 02 H L 00 01 0C 20 H L 00 02 08 00 H L 00 20 08 00 00 00 00 H" prints "00 00 00 00 00 00 00 00 00 00 00 00 00 00 00 03 00 00 00 08 00 00 00"
+        ∷ "@0:ended L 00 01 0C 08 H L 00 25 0C 02 H L 00 01 0C 20 H" prints "00 00 00 00 00 00 00 00 00 00 00 00"
+        ∷ "L 00 02 08 00 H L 00 20 08 00 00 00 00 H" prints "00 00 00 03 00 00 00 08 00 00 00"
         ∷ []) }
-{}
-
-/// SEND in FIN_WAIT does nothing, and RECV there releases.
-pub fn sends_nothing_after_discon()
-    ensures { Prints (
+    ensures fin_wait { Prints (
         connected
         ∷ "@0:got:0102 L 00 01 0C 08 H L 00 24 0C 00 02 H L 00 01 0C 20 H" prints "00 00 00 00 00 00 00 00 00 00 00 00 00"
-        ∷ "L 00 28 0C 00 01 H L 00 01 0C 40 H" prints "00 00 00 00 00 00 00 00 00"
-        ∷ "L 00 26 08 00 00 H L 00 22 08 00 00 H" prints "00 00 00 00 01 00 00 00 00 00"
+        ∷ "L 00 02 08 00 00 H L 00 20 08 00 00 00 00 H" prints "00 00 00 05 18 00 00 00 08 00 00 00"
         ∷ []) }
 {}
 

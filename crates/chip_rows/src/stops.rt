@@ -33,15 +33,11 @@ pub fn stops_send_mac()
 pub fn stops_raw_ethernet()
     ensures at_open { Stops ("L 00 00 EC 04 H L 00 01 EC 01" prints "00 00 00 00 00 00 00" ∷ []) (RawEthernet 7) }
     ensures upper_bits { Stops ("L 00 00 EC 84 H L 00 01 EC 01" prints "00 00 00 00 00 00 00" ∷ []) (RawEthernet 7) }
+    ensures before_sizes { Stops ("L 00 1F 0C 03 H L 00 00 0C 04 H L 00 01 0C 01" prints "00 00 00 00 00 00 00 00 00 00 00" ∷ []) (RawEthernet 0) }
     ensures not_in_init { Prints (
         opened_7
         ∷ "L 00 00 EC 04 H L 00 01 EC 01 H L 00 03 E8 00 H" prints "00 00 00 00 00 00 00 00 00 00 00 13"
         ∷ []) }
-{}
-
-/// OPEN for raw Ethernet frames stops before the sizes are looked at.
-pub fn stops_raw_before_sizes()
-    ensures { Stops ("L 00 1F 0C 03 H L 00 00 0C 04 H L 00 01 0C 01" prints "00 00 00 00 00 00 00 00 00 00 00" ∷ []) (RawEthernet 0) }
 {}
 
 /// A byte that stops the board has no answer, and what stands behind it does not run.
