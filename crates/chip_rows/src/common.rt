@@ -33,6 +33,16 @@ pub fn cuts_longer_frames()
     ensures { Prints ("L 00 19 02 00 00 00 25 03 00 00 00 00 00 39 00 00 00 H" prints "00 00 00 07 D0 00 00 00 00 FF FF 00 00 00 00 04 00" ∷ []) }
 {}
 
+/// A frame ends where the line rises, however short it is, and the next begins where it falls. Looks stand between the bytes of a
+/// frame.
+pub fn begins_a_frame_anew()
+    ensures short { Prints (
+        "L 00 39 H L 00 39 00 H L 00 H" prints "00 00 00 00 00 00"
+        ∷ "L 00 19 00 00 H" prints "00 00 00 07"
+        ∷ []) }
+    ensures looks { Prints ("L 00 ? 39 00 ? 00 ? H" prints "00 1 00 00 1 04 1" ∷ []) }
+{}
+
 /// The offset address wraps from FFFF to 0000, and the byte there is written: MR reads it back.
 pub fn wraps_the_offset()
     ensures { Prints ("L FF FF 06 AA 55 00 00 01 00 H" prints "00 00 00 00 00 00 00 00 55" ∷ []) }

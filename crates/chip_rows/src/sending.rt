@@ -172,6 +172,20 @@ pub fn sends_what_stands_there()
     ensures next_life { sent_after "L 00 00 0C 01 H L 00 01 0C 01 H L 00 01 0C 04 H @0:linked L 00 00 14 01 02 H L 00 25 0C 02 H L 00 01 0C 20 H L 00 01 0C 10 H L 00 01 0C 01 H" 0 2 ≡ Some [] }
 {}
 
+/// What one life sent and received counts in no other: the next one begins with empty windows and at position 0.
+pub fn counts_in_each_life()
+    ensures { Prints (
+        connected
+        ∷ "@0:got:0102 L 00 25 0C 03 H L 00 01 0C 20 H @0:took:3" prints "00 00 00 00 00 00 00 00"
+        ∷ "L 00 01 0C 10 H @0:dropped" prints "00 00 00 00"
+        ∷ "L 00 01 0C 01 H L 00 01 0C 04 H @0:linked" prints "00 00 00 00 00 00 00 00"
+        ∷ "L 00 20 08 00 00 00 00 00 00 00 00 00 00 00 00 H" prints "00 00 00 08 00 00 00 00 00 00 00 00 00 00 00"
+        ∷ "L 00 02 0C 1F H L 00 25 0C 02 H L 00 01 0C 20 H @0:got:07" prints "00 00 00 00 00 00 00 00 00 00 00 00"
+        ∷ "L 00 20 08 00 00 00 00 00 00 00 00 00 00 00 00 H" prints "00 00 00 07 FE 00 02 00 02 00 01 00 00 00 01"
+        ∷ "@0:took:2 L 00 02 08 00 H L 00 00 18 00 00 H" prints "00 00 00 14 00 00 00 07 00"
+        ∷ []) }
+{}
+
 /// Nothing is taken that is not in flight: none at first, not 0 bytes, and not more than there are.
 pub fn refuses_a_take()
     ensures closed { IsNotDue ("L 00 03 08 00 H @0:took:1" prints "00 00 00 00" ∷ []) }
