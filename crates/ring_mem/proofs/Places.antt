@@ -5,7 +5,7 @@ use Rattle.std.proofs.lemmas.Bool.{cases_lt}
 use Rattle.std.proofs.lemmas.List.{get_or-take, get_or-drop, get_or_append_left, get_or-append_right, length-take-le}
 use Rattle.std.proofs.lemmas.Grind.{same_number_lists}
 use Rattle.ring_mem.specs.Parts.{is_size}
-use Rattle.chip_sheet.specs.Sending.{Sending, taken_count, first_in_flight, next_to_send}
+use Rattle.chip_sheet.specs.Sending.{Sending, first_in_flight, next_to_send}
 
 -- a pointer and the position that it shows name one place
 pub same_place : (size at : ℕ) → is_size size ≡ true → 0 < size → at % 65536 % size ≡ at % size

@@ -1,7 +1,7 @@
 -- Registers of two bytes.
-use Rattle.std.proofs.Common.{◌≡◌, ◌≤◌, ◌<◌, ℕ, ◌+◌, ◌-◌, ◌/◌, ◌%◌, Bool, true, false, List, eqb, if◌then◌else◌, refl, sym, ap, ◌∙◌, arith}
+use Rattle.std.proofs.Common.{◌≡◌, ◌<◌, ℕ, ◌+◌, ◌-◌, ◌/◌, ◌%◌, Bool, true, false, List, eqb, if◌then◌else◌, ap, ◌∙◌, arith}
 use Rattle.std.proofs.lemmas.Bool.Decides.{nat_tests}
-use Rattle.chip_sheet.specs.Positions.{pair, byte_of, shown}
+use Rattle.chip_sheet.specs.Positions.{pair, byte_of}
 use Rattle.chip_sheet.specs.Sending as sending
 use Rattle.chip_sheet.specs.Receiving as receiving
 use Rattle.ring_mem.specs.Parts.{is_size, with_byte}

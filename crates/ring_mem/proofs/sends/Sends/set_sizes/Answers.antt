@@ -1,4 +1,4 @@
-use Rattle.std.proofs.Common.{get_or, sym, ap, ◌∙◌, arith}
+use Rattle.std.proofs.Common.{get_or, ap, ◌∙◌, arith}
 use Rattle.chip_sheet.specs.Sizes.{size_among}
 use Rattle.ring_mem.specs.TxHolds.{part}
 use Rattle.ring_mem.proofs.Idle.{resizes, all_zero}
