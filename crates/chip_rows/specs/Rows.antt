@@ -23,6 +23,10 @@ infix 70 ◌prints◌
 abbrev pub ◌prints◌ : String → String → Line
 script prints text = record { script = codes script; text = codes text }
 
+-- A line whose text is not looked at.
+abbrev pub line : String → Line
+line script = record { script = codes script; text = [] }
+
 -- Socket 0, and socket 7, opened for TCP; and then connected and linked.
 abbrev pub opened : Line
 opened = "L 00 00 0C 01 H L 00 01 0C 01 H" prints "00 00 00 00 00 00 00 00"
@@ -113,7 +117,7 @@ Stops lines stop = EndsWith lines (StoppedBy stop)
 abbrev pub IsNotDue : List Line → Type 0
 IsNotDue lines = EndsWith lines NotDue
 
--- What a definition says once this script has run; nothing where it does not come to its end.
+-- What a definition says once a script of these lines has run, whatever it prints; nothing where it does not come to its end.
 abbrev pub if_ended : {A : Type 0} → Ending → A → Option A
 if_ended AllTaken a = Some a
 if_ended ending a = None
@@ -123,14 +127,19 @@ asked_of ask (Err fault) = None
 asked_of ask (Ok script) =
     let it = shown_from script.starts [] script.lines in if_ended it.ending (ask script.starts it.past)
 
-abbrev pub due_after : String → ℕ → Option Due
-due_after script place = asked_of (λ starts past. due_at starts past place) (script_of (codes script))
+abbrev pub after : {A : Type 0} → List Line → (Starts → Past → A) → Option A
+after lines ask = asked_of ask (script_of (script_text lines))
 
-abbrev pub sent_after : String → ℕ → ℕ → Option (List ℕ)
-sent_after script n life = asked_of (λ starts past. sent starts past n life) (script_of (codes script))
+-- The link call that is due at a place.
+abbrev pub due_after : List Line → ℕ → Option Due
+due_after lines place = after lines (λ starts past. due_at starts past place)
 
-abbrev pub got_after : String → ℕ → ℕ → Option (List ℕ)
-got_after script n life = asked_of (λ starts past. got past n life) (script_of (codes script))
+-- What a life of socket n sent, received, and was supplied with.
+abbrev pub sent_after : List Line → ℕ → ℕ → Option (List ℕ)
+sent_after lines n life = after lines (λ starts past. sent starts past n life)
 
-abbrev pub supplied_after : String → ℕ → ℕ → Option (List ℕ)
-supplied_after script n life = asked_of (λ starts past. supplied past n life) (script_of (codes script))
+abbrev pub got_after : List Line → ℕ → ℕ → Option (List ℕ)
+got_after lines n life = after lines (λ starts past. got past n life)
+
+abbrev pub supplied_after : List Line → ℕ → ℕ → Option (List ℕ)
+supplied_after lines n life = after lines (λ starts past. supplied past n life)

@@ -2,8 +2,9 @@
 #![tactic(auto, unfolding(chip_sheet::specs::Frames::cut, chip_sheet::specs::Frames::current, chip_sheet::specs::CommonBlock::common_place, chip_sheet::specs::SocketBlock::socket_place, hex::specs::Hex::decode_pairs))]
 
 ghost use Rattle.std.specs.Prelude.{◌≡◌, [], ◌∷◌, Some};
+ghost use Rattle.chip_sheet.specs.LinkCalls.{connection};
 ghost use Rattle.chip_sheet.specs.declared.socket.Due.TheVariants as due;
-ghost use Rattle.chip_rows.specs.Rows.{opened, connected, ◌prints◌, Prints, IsNotDue, due_after};
+ghost use Rattle.chip_rows.specs.Rows.{opened, opened_7, connected, ◌prints◌, line, Prints, IsNotDue, due_after};
 
 /// A reset closes the socket, clears the buffers and goes on with the number of lives: its old life is to be dropped.
 pub fn resets_a_socket()
@@ -48,42 +49,42 @@ pub fn keeps_an_old_life()
 
 /// What CONNECT and LISTEN make due: with the address and the port that the registers held then.
 pub fn asks_for_a_connection()
-    ensures connect { due_after "L 00 00 EC 01 H L 00 01 EC 01 H L 00 0C EC 0A 00 00 02 13 88 H L 00 01 EC 04 H L 00 0C EC 01 H" 14 ≡ Some (due.Connect (record { sn = 7; life = 1 }) (record { ip = 10 ∷ 0 ∷ 0 ∷ 2 ∷ []; port = 5000 })) }
-    ensures listen { due_after "L 00 00 EC 01 H L 00 01 EC 01 H L 00 04 EC 13 88 H L 00 01 EC 02 H L 00 05 EC 01 H" 15 ≡ Some (due.Accept (record { sn = 7; life = 1 }) 5000) }
-    ensures connect_alone { due_after "L 00 00 EC 01 H L 00 01 EC 01 H L 00 0C EC 0A 00 00 02 13 88 H L 00 01 EC 04 H" 15 ≡ Some due.Nothing }
-    ensures listen_alone { due_after "L 00 00 EC 01 H L 00 01 EC 01 H L 00 01 EC 02 H" 14 ≡ Some due.Nothing }
-    ensures nothing_out { due_after "L 00 00 EC 01 H L 00 01 EC 01 H" 14 ≡ Some due.Nothing }
-    ensures nothing_in { due_after "L 00 00 EC 01 H L 00 01 EC 01 H" 15 ≡ Some due.Nothing }
-    ensures other_socket { due_after "L 00 00 EC 01 H L 00 01 EC 01 H L 00 01 EC 02 H" 1 ≡ Some due.Nothing }
+    ensures connect { due_after (opened_7 ∷ line "L 00 0C EC 0A 00 00 02 13 88 H L 00 01 EC 04 H L 00 0C EC 01 H" ∷ []) 14 ≡ Some (due.Connect (connection 7 1) (record { ip = 10 ∷ 0 ∷ 0 ∷ 2 ∷ []; port = 5000 })) }
+    ensures listen { due_after (opened_7 ∷ line "L 00 04 EC 13 88 H L 00 01 EC 02 H L 00 05 EC 01 H" ∷ []) 15 ≡ Some (due.Accept (connection 7 1) 5000) }
+    ensures connect_alone { due_after (opened_7 ∷ line "L 00 0C EC 0A 00 00 02 13 88 H L 00 01 EC 04 H" ∷ []) 15 ≡ Some due.Nothing }
+    ensures listen_alone { due_after (opened_7 ∷ line "L 00 01 EC 02 H" ∷ []) 14 ≡ Some due.Nothing }
+    ensures nothing_out { due_after (opened_7 ∷ []) 14 ≡ Some due.Nothing }
+    ensures nothing_in { due_after (opened_7 ∷ []) 15 ≡ Some due.Nothing }
+    ensures other_socket { due_after (opened_7 ∷ line "L 00 01 EC 02 H" ∷ []) 1 ≡ Some due.Nothing }
 {}
 
 /// What is due on a connection: a read while the buffer has room, a write while bytes are in flight; once this side has ended,
 /// the link's end behind them, and reading away.
 pub fn uses_a_connection()
-    ensures read { due_after "L 00 00 0C 01 H L 00 01 0C 01 H L 00 01 0C 04 H @0:linked" 1 ≡ Some (due.Read (record { sn = 0; life = 1 })) }
-    ensures idle { due_after "L 00 00 0C 01 H L 00 01 0C 01 H L 00 01 0C 04 H @0:linked" 0 ≡ Some due.Nothing }
-    ensures no_room { due_after "L 00 1E 0C 00 H L 00 00 0C 01 H L 00 01 0C 01 H L 00 01 0C 04 H @0:linked" 1 ≡ Some due.Nothing }
-    ensures write { due_after "L 00 00 0C 01 H L 00 01 0C 01 H L 00 01 0C 04 H @0:linked L 00 25 0C 02 H L 00 01 0C 20 H" 0 ≡ Some (due.Write (record { sn = 0; life = 1 })) }
-    ensures write_behind_the_end { due_after "L 00 00 0C 01 H L 00 01 0C 01 H L 00 01 0C 04 H @0:linked @0:ended L 00 25 0C 02 H L 00 01 0C 20 H" 0 ≡ Some (due.Write (record { sn = 0; life = 1 })) }
-    ensures behind_the_end { due_after "L 00 00 0C 01 H L 00 01 0C 01 H L 00 01 0C 04 H @0:linked @0:ended" 1 ≡ Some due.Nothing }
-    ensures write_last { due_after "L 00 00 0C 01 H L 00 01 0C 01 H L 00 01 0C 04 H @0:linked L 00 25 0C 02 H L 00 01 0C 20 H L 00 01 0C 08 H" 0 ≡ Some (due.Write (record { sn = 0; life = 1 })) }
-    ensures ended { due_after "L 00 00 0C 01 H L 00 01 0C 01 H L 00 01 0C 04 H @0:linked L 00 01 0C 08 H" 0 ≡ Some (due.Shut (record { sn = 0; life = 1 })) }
-    ensures away { due_after "L 00 00 0C 01 H L 00 01 0C 01 H L 00 01 0C 04 H @0:linked L 00 01 0C 08 H" 1 ≡ Some (due.ReadAway (record { sn = 0; life = 1 })) }
-    ensures shut { due_after "L 00 00 0C 01 H L 00 01 0C 01 H L 00 01 0C 04 H @0:linked L 00 01 0C 08 H @0:shut" 0 ≡ Some due.Nothing }
-    ensures both_ended { due_after "L 00 00 0C 01 H L 00 01 0C 01 H L 00 01 0C 04 H @0:linked L 00 01 0C 08 H @0:ended" 1 ≡ Some due.Nothing }
-    ensures last_shut { due_after "L 00 00 0C 01 H L 00 01 0C 01 H L 00 01 0C 04 H @0:linked @0:ended L 00 01 0C 08 H" 0 ≡ Some (due.Shut (record { sn = 0; life = 1 })) }
-    ensures last_write { due_after "L 00 00 0C 01 H L 00 01 0C 01 H L 00 01 0C 04 H @0:linked @0:ended L 00 25 0C 02 H L 00 01 0C 20 H L 00 01 0C 08 H" 0 ≡ Some (due.Write (record { sn = 0; life = 1 })) }
+    ensures read { due_after (connected ∷ []) 1 ≡ Some (due.Read (connection 0 1)) }
+    ensures idle { due_after (connected ∷ []) 0 ≡ Some due.Nothing }
+    ensures no_room { due_after (line "L 00 1E 0C 00 H" ∷ connected ∷ []) 1 ≡ Some due.Nothing }
+    ensures write { due_after (connected ∷ line "L 00 25 0C 02 H L 00 01 0C 20 H" ∷ []) 0 ≡ Some (due.Write (connection 0 1)) }
+    ensures write_behind_the_end { due_after (connected ∷ line "@0:ended L 00 25 0C 02 H L 00 01 0C 20 H" ∷ []) 0 ≡ Some (due.Write (connection 0 1)) }
+    ensures behind_the_end { due_after (connected ∷ line "@0:ended" ∷ []) 1 ≡ Some due.Nothing }
+    ensures write_last { due_after (connected ∷ line "L 00 25 0C 02 H L 00 01 0C 20 H L 00 01 0C 08 H" ∷ []) 0 ≡ Some (due.Write (connection 0 1)) }
+    ensures ended { due_after (connected ∷ line "L 00 01 0C 08 H" ∷ []) 0 ≡ Some (due.Shut (connection 0 1)) }
+    ensures away { due_after (connected ∷ line "L 00 01 0C 08 H" ∷ []) 1 ≡ Some (due.ReadAway (connection 0 1)) }
+    ensures shut { due_after (connected ∷ line "L 00 01 0C 08 H @0:shut" ∷ []) 0 ≡ Some due.Nothing }
+    ensures both_ended { due_after (connected ∷ line "L 00 01 0C 08 H @0:ended" ∷ []) 1 ≡ Some due.Nothing }
+    ensures last_shut { due_after (connected ∷ line "@0:ended L 00 01 0C 08 H" ∷ []) 0 ≡ Some (due.Shut (connection 0 1)) }
+    ensures last_write { due_after (connected ∷ line "@0:ended L 00 25 0C 02 H L 00 01 0C 20 H L 00 01 0C 08 H" ∷ []) 0 ≡ Some (due.Write (connection 0 1)) }
 {}
 
 /// A life that closes, where the link was asked in it, is to be dropped before anything else is due. A life that closes while it is
 /// not dropped does not take its place. The next life has the next number.
 pub fn drops_an_old_life()
-    ensures first { due_after "L 00 00 0C 01 H L 00 01 0C 01 H L 00 01 0C 04 H @0:linked L 00 00 04 80 H L 00 00 0C 01 H L 00 01 0C 01 H L 00 01 0C 04 H" 0 ≡ Some (due.Drop (record { sn = 0; life = 1 })) }
-    ensures alone { due_after "L 00 00 0C 01 H L 00 01 0C 01 H L 00 01 0C 04 H @0:linked L 00 00 04 80 H L 00 00 0C 01 H L 00 01 0C 01 H L 00 01 0C 02 H" 1 ≡ Some due.Nothing }
-    ensures after { due_after "L 00 00 0C 01 H L 00 01 0C 01 H L 00 01 0C 04 H @0:linked L 00 00 04 80 H L 00 00 0C 01 H L 00 01 0C 01 H L 00 0C 0C 0A 00 00 02 13 88 H L 00 01 0C 04 H @0:dropped" 0 ≡ Some (due.Connect (record { sn = 0; life = 2 }) (record { ip = 10 ∷ 0 ∷ 0 ∷ 2 ∷ []; port = 5000 })) }
-    ensures older_stays { due_after "L 00 00 0C 01 H L 00 01 0C 01 H L 00 01 0C 04 H @0:linked L 00 01 0C 10 H L 00 01 0C 01 H L 00 01 0C 04 H L 00 01 0C 10 H" 0 ≡ Some (due.Drop (record { sn = 0; life = 1 })) }
-    ensures later_is_none { due_after "L 00 00 0C 01 H L 00 01 0C 01 H L 00 01 0C 04 H @0:linked L 00 01 0C 10 H L 00 01 0C 01 H L 00 01 0C 04 H L 00 00 04 80 H @0:dropped" 0 ≡ Some due.Nothing }
-    ensures second { due_after "L 00 00 0C 01 H L 00 01 0C 01 H L 00 01 0C 04 H @0:linked L 00 01 0C 10 H @0:dropped L 00 01 0C 01 H L 00 01 0C 02 H L 00 01 0C 10 H" 0 ≡ Some (due.Drop (record { sn = 0; life = 2 })) }
-    ensures unlinked { due_after "L 00 00 0C 01 H L 00 01 0C 01 H L 00 01 0C 10 H" 0 ≡ Some due.Nothing }
-    ensures refused { due_after "L 00 00 0C 01 H L 00 01 0C 01 H L 00 01 0C 04 H @0:refused" 0 ≡ Some (due.Drop (record { sn = 0; life = 1 })) }
+    ensures first { due_after (connected ∷ line "L 00 00 04 80 H L 00 00 0C 01 H L 00 01 0C 01 H L 00 01 0C 04 H" ∷ []) 0 ≡ Some (due.Drop (connection 0 1)) }
+    ensures alone { due_after (connected ∷ line "L 00 00 04 80 H L 00 00 0C 01 H L 00 01 0C 01 H L 00 01 0C 02 H" ∷ []) 1 ≡ Some due.Nothing }
+    ensures after { due_after (connected ∷ line "L 00 00 04 80 H L 00 00 0C 01 H L 00 01 0C 01 H" ∷ line "L 00 0C 0C 0A 00 00 02 13 88 H L 00 01 0C 04 H @0:dropped" ∷ []) 0 ≡ Some (due.Connect (connection 0 2) (record { ip = 10 ∷ 0 ∷ 0 ∷ 2 ∷ []; port = 5000 })) }
+    ensures older_stays { due_after (connected ∷ line "L 00 01 0C 10 H L 00 01 0C 01 H L 00 01 0C 04 H L 00 01 0C 10 H" ∷ []) 0 ≡ Some (due.Drop (connection 0 1)) }
+    ensures later_is_none { due_after (connected ∷ line "L 00 01 0C 10 H L 00 01 0C 01 H L 00 01 0C 04 H L 00 00 04 80 H" ∷ line "@0:dropped" ∷ []) 0 ≡ Some due.Nothing }
+    ensures second { due_after (connected ∷ line "L 00 01 0C 10 H @0:dropped L 00 01 0C 01 H L 00 01 0C 02 H" ∷ line "L 00 01 0C 10 H" ∷ []) 0 ≡ Some (due.Drop (connection 0 2)) }
+    ensures unlinked { due_after (opened ∷ line "L 00 01 0C 10 H" ∷ []) 0 ≡ Some due.Nothing }
+    ensures refused { due_after (opened ∷ line "L 00 01 0C 04 H @0:refused" ∷ []) 0 ≡ Some (due.Drop (connection 0 1)) }
 {}

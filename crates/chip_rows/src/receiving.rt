@@ -4,7 +4,7 @@
 ghost use Rattle.std.specs.Prelude.{◌≡◌, [], ◌∷◌, Some};
 ghost use Rattle.chip_sheet.specs.declared.socket.Due.TheVariants as due;
 ghost use Rattle.chip_sheet.specs.declared.stop.ChipStop.TheVariants.{RecvPastEnd};
-ghost use Rattle.chip_rows.specs.Rows.{opened, connected, connected_7, ◌prints◌, long, Prints, Stops, IsNotDue, got_after, supplied_after};
+ghost use Rattle.chip_rows.specs.Rows.{opened, connected, connected_7, ◌prints◌, line, long, Prints, Stops, IsNotDue, got_after, supplied_after};
 
 /// Received bytes are read at their place, and RECV raises its bit again while some remain.
 pub fn receives()
@@ -119,8 +119,8 @@ pub fn reads_away()
 
 /// Bytes that come after DISCON were supplied by the link, and are not received.
 pub fn supplies_after_discon()
-    ensures supplied { supplied_after "L 00 00 0C 01 H L 00 01 0C 01 H L 00 01 0C 04 H @0:linked @0:got:0102 L 00 01 0C 08 H @0:got:03" 0 1 ≡ Some (1 ∷ 2 ∷ 3 ∷ []) }
-    ensures got { got_after "L 00 00 0C 01 H L 00 01 0C 01 H L 00 01 0C 04 H @0:linked @0:got:0102 L 00 01 0C 08 H @0:got:03" 0 1 ≡ Some (1 ∷ 2 ∷ []) }
+    ensures supplied { supplied_after (connected ∷ line "@0:got:0102 L 00 01 0C 08 H @0:got:03" ∷ []) 0 1 ≡ Some (1 ∷ 2 ∷ 3 ∷ []) }
+    ensures got { got_after (connected ∷ line "@0:got:0102 L 00 01 0C 08 H @0:got:03" ∷ []) 0 1 ≡ Some (1 ∷ 2 ∷ []) }
 {}
 
 /// Writes to the RX buffer have no effect, and each socket has one of its own.

@@ -3,7 +3,7 @@
 
 ghost use Rattle.std.specs.Prelude.{◌≡◌, [], ◌∷◌, Some};
 ghost use Rattle.chip_sheet.specs.declared.stop.ChipStop.TheVariants.{OverwriteInFlight, SendTooLong};
-ghost use Rattle.chip_rows.specs.Rows.{opened, connected, connected_7, ◌prints◌, Prints, Stops, IsNotDue, sent_after};
+ghost use Rattle.chip_rows.specs.Rows.{opened, connected, connected_7, ◌prints◌, line, Prints, Stops, IsNotDue, sent_after};
 
 /// The second byte of a range stands at the start of the buffer: addresses are taken modulo the socket's size.
 pub fn wraps_in_the_buffer()
@@ -166,10 +166,10 @@ pub fn sends_a_full_buffer()
 /// What a SEND passes on are the bytes that stand in the buffer at that moment, from the end of the last SEND to TX_WR, in order;
 /// a byte that is written once it was taken belongs to the next SEND.
 pub fn sends_what_stands_there()
-    ensures wraps { sent_after "start 65534 0\nL 00 00 EC 01 H L 00 01 EC 01 H L 00 01 EC 04 H @7:linked L FF FE F4 01 02 03 04 H L 00 24 EC 00 02 H L 00 01 EC 20 H" 7 1 ≡ Some (1 ∷ 2 ∷ 3 ∷ 4 ∷ []) }
-    ensures two_sends { sent_after "L 00 00 0C 01 H L 00 01 0C 01 H L 00 01 0C 04 H @0:linked L 00 00 14 01 02 03 H L 08 00 14 09 H L 00 25 0C 02 H L 00 01 0C 20 H L 00 02 14 07 H L 00 25 0C 03 H L 00 01 0C 20 H" 0 1 ≡ Some (9 ∷ 2 ∷ 7 ∷ []) }
-    ensures stays { sent_after "L 00 00 0C 01 H L 00 01 0C 01 H L 00 01 0C 04 H @0:linked L 00 00 14 01 02 H L 00 25 0C 02 H L 00 01 0C 20 H @0:took:2 L 00 00 14 08 08 H L 00 01 0C 10 H L 00 01 0C 01 H" 0 1 ≡ Some (1 ∷ 2 ∷ []) }
-    ensures next_life { sent_after "L 00 00 0C 01 H L 00 01 0C 01 H L 00 01 0C 04 H @0:linked L 00 00 14 01 02 H L 00 25 0C 02 H L 00 01 0C 20 H L 00 01 0C 10 H L 00 01 0C 01 H" 0 2 ≡ Some [] }
+    ensures wraps { sent_after (line "start 65534 0" ∷ connected_7 ∷ line "L FF FE F4 01 02 03 04 H L 00 24 EC 00 02 H L 00 01 EC 20 H" ∷ []) 7 1 ≡ Some (1 ∷ 2 ∷ 3 ∷ 4 ∷ []) }
+    ensures two_sends { sent_after (connected ∷ line "L 00 00 14 01 02 03 H L 08 00 14 09 H L 00 25 0C 02 H" ∷ line "L 00 01 0C 20 H L 00 02 14 07 H L 00 25 0C 03 H L 00 01 0C 20 H" ∷ []) 0 1 ≡ Some (9 ∷ 2 ∷ 7 ∷ []) }
+    ensures stays { sent_after (connected ∷ line "L 00 00 14 01 02 H L 00 25 0C 02 H L 00 01 0C 20 H @0:took:2" ∷ line "L 00 00 14 08 08 H L 00 01 0C 10 H L 00 01 0C 01 H" ∷ []) 0 1 ≡ Some (1 ∷ 2 ∷ []) }
+    ensures next_life { sent_after (connected ∷ line "L 00 00 14 01 02 H L 00 25 0C 02 H L 00 01 0C 20 H L 00 01 0C 10 H" ∷ line "L 00 01 0C 01 H" ∷ []) 0 2 ≡ Some [] }
 {}
 
 /// What one life sent and received counts in no other: the next one begins with empty windows and at position 0.
