@@ -8,7 +8,7 @@ use Rattle.avr_serial.specs.Bits.{bit}
 use Rattle.avr_serial.specs.Registers.{register_at}
 use Rattle.avr_serial.specs.Spi.{reset_spi, spsr_value, spsr_read, touched, spdr_written, start_answer, begun, spi_at}
 use Rattle.avr_serial.specs.Usart.{reset_usart, ucsr0a_value, ucsr0a_written, udr0_answer, udr0_written, is_empty, usart_at}
-use Rattle.avr_table.specs.declared.stop.DeviceStop.{DeviceStop}
+use Rattle.avr_sheet.specs.declared.stop.DeviceStop.{DeviceStop}
 
 -- the registers and what is on its way, at a cycle count
 pub record SerialState : Type 0 where

@@ -4,7 +4,7 @@ use crate::bits::has_bit;
 use crate::register::{Register, register_at};
 use crate::spi::Spi;
 use crate::usart::Usart;
-use avr_table::DeviceStop;
+use avr_sheet::DeviceStop;
 use std::marker::Model;
 
 /// The word address of the vector of SPI.

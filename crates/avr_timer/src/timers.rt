@@ -8,7 +8,7 @@ use crate::place::{Place, Register8, Register16, place_at};
 use crate::stop::stop_of_assr;
 use crate::timer8::Timer8;
 use crate::timer16::Timer16;
-use avr_table::DeviceStop;
+use avr_sheet::DeviceStop;
 use std::marker::Model;
 
 /// The word addresses of the vectors.

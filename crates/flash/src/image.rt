@@ -1,13 +1,9 @@
 //! The image: every byte of flash.
 ghost use Rattle.std.specs.Prelude.{◌≡◌, ◌<◌, vec_len, length, slice_index, slice_set, IfOk};
-ghost use Rattle.ihex.specs.Image.{filled, erased, word_at};
+ghost use Rattle.flash.specs.Image.{filled, erased, word_at};
 
 use std::alloc::{AllocError, Global};
 use std::marker::Model;
-
-/// No memory was left for an image.
-#[derive(Clone, Copy, Debug, PartialEq, Eq)]
-pub struct NoMemory;
 
 /// The flash of an ATmega328P: 32,768 bytes (datasheet, "In-System Reprogrammable Flash Program Memory"), from address 0.
 ///
@@ -27,7 +23,7 @@ impl Model for Image {
     ghost invariant = { λ image. length image.bytes.items ≡ 32768 };
 }
 
-/// So many copies of a byte.
+/// So many copies of a byte (apart, so that its clauses and not the list itself go on to the callers).
 #[tactic(auto, unfolding(crate::specs::Image::filled))]
 fn filled(alloc: Global, len: usize, byte: u8) -> Result<Vec<u8>, AllocError>
     ensures items { IfOk result (λ bytes. bytes.items ≡ filled len byte) }
@@ -36,27 +32,24 @@ fn filled(alloc: Global, len: usize, byte: u8) -> Result<Vec<u8>, AllocError>
     vec![in alloc; byte; len]
 }
 
-impl From<AllocError> for NoMemory {
-    fn from(_: AllocError) -> Self {
-        NoMemory
-    }
-}
-
 impl Image {
     /// Bytes in an image.
     const SIZE: usize = 32768;
 
-    /// Erased flash: every byte is FF. The error says that no memory was left.
-    pub fn blank(alloc: Global) -> Result<Self, NoMemory>
+    /// Erased flash: every byte is FF.
+    ///
+    /// # Errors
+    ///
+    /// No memory was left.
+    pub fn blank(alloc: Global) -> Result<Self, AllocError>
         ensures { IfOk result (λ image. image ≡ erased) }
     {
-        match filled(alloc, Self::SIZE, 0xFF) {
-            Ok(bytes) => Ok(Image { bytes }),
-            Err(_) => Err(NoMemory),
-        }
+        let bytes = filled(alloc, Self::SIZE, 0xFF)?;
+        Ok(Image { bytes })
     }
 
     /// The byte at `at`, which is below 32,768.
+    #[inline]
     pub fn byte(&self, at: u16) -> u8
         requires { at < 32768 }
         ensures { result ≡ slice_index self.now at }
@@ -73,6 +66,7 @@ impl Image {
     }
 
     /// The program word at the word address `at`, which is below 16,384; its low byte stands first.
+    #[inline]
     pub fn word(&self, at: u16) -> u16
         requires { at < 16384 }
         ensures { result ≡ word_at self.now at }
@@ -96,7 +90,7 @@ mod tests {
 
     #[test]
     fn bytes_and_words(rt: HostRuntime) -> Result<(), Fail> {
-        let mut image = Image::blank(rt.alloc()).map_err(|_| "no memory")?;
+        let mut image = Image::blank(rt.alloc())?;
         image.set(0, 0x0C);
         image.set(1, 0x94);
         image.set(32767, 0x12);

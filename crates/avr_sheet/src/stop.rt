@@ -1,4 +1,5 @@
 //! What the devices of the microcontroller stop the board for.
+
 /// Why a device of the microcontroller stops the board: the firmware started something that this board
 /// does not have (ATmega328P datasheet, the section of the device that each variant names).
 #[derive(Clone, Copy, Debug, PartialEq, Eq)]
