@@ -1,10 +1,10 @@
+//! The SPI and the USART transmitter together.
 ghost use Rattle.std.specs.Prelude.{◌≡◌, ◌≤◌};
 
-use crate::bits::has_bit;
 use crate::register::{Register, register_at};
 use crate::spi::Spi;
 use crate::usart::Usart;
-use avr_sheet::DeviceStop;
+use avr_sheet::{DeviceStop, is_set};
 use std::marker::Model;
 
 /// The word address of the vector of SPI.
@@ -114,11 +114,11 @@ impl Serial {
     pub fn pending(&self) -> Option<u8>
         ensures { result ≡ pending_vector self.now }
     {
-        if has_bit(self.spi.spcr, 7) && self.spi.spif {
+        if is_set(self.spi.spcr, 7) && self.spi.spif {
             Some(SPI_VECTOR)
-        } else if has_bit(self.usart.ucsr0b, 5) && self.usart.waiting.is_none() {
+        } else if is_set(self.usart.ucsr0b, 5) && self.usart.waiting.is_none() {
             Some(UDRE_VECTOR)
-        } else if has_bit(self.usart.ucsr0b, 6) && self.usart.txc {
+        } else if is_set(self.usart.ucsr0b, 6) && self.usart.txc {
             Some(TX_VECTOR)
         } else {
             None
@@ -196,7 +196,7 @@ impl Serial {
     {
         match register {
             Register::Spcr => self.spi.spcr = v,
-            Register::Spsr => self.spi.spi2x = has_bit(v, 0),
+            Register::Spsr => self.spi.spi2x = is_set(v, 0),
             Register::Spdr => return self.write_spdr(v),
             Register::Ucsr0a => self.usart.write_ucsr0a(v),
             Register::Ucsr0b => self.usart.ucsr0b = v,

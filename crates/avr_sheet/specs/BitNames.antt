@@ -54,7 +54,17 @@ PCIF1 = 1
 abbrev pub PCIF2 : ℕ
 PCIF2 = 2
 
--- TIMSKn and TIFRn ("TIMSKn", "TIFRn")
+-- TIFRn ("TIFRn")
+abbrev pub OCFB : ℕ
+OCFB = 2
+
+abbrev pub OCFA : ℕ
+OCFA = 1
+
+abbrev pub TOV : ℕ
+TOV = 0
+
+-- TIMSKn ("TIMSKn")
 abbrev pub OCIEB : ℕ
 OCIEB = 2
 

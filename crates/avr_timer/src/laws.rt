@@ -1,3 +1,4 @@
+//! Laws of the definitions, each the contract of a function that does nothing.
 ghost use Rattle.avr_timer.specs.Laws.{TicksAddUp, SpansAddUp};
 
 /// A law over the definitions alone: how a span of ticks is cut changes nothing, neither the counter nor its flags.
