@@ -1,5 +1,5 @@
 -- The SPI and the USART transmitter together, with the cycle count that they have passed.
-use Rattle.std.specs.Prelude.{ℕ, ◌*◌, ◌+◌, ◌/◌, ◌%◌, ◌==◌, ◌&&◌, false, Option, Some, None, Result, Ok, Err, if◌then◌else◌}
+use Rattle.std.specs.Prelude.{◌≡◌, ℕ, ◌<◌, min, ◌*◌, ◌+◌, ◌/◌, ◌%◌, ◌==◌, ◌&&◌, false, Option, Some, None, Result, Ok, Err, if◌then◌else◌}
 use Rattle.avr_serial.specs.declared.register.Register.{Register}
 use Rattle.avr_serial.specs.declared.register.Register.TheVariants.{Spcr, Spsr, Spdr, Ucsr0a, Ucsr0b, Ucsr0c, Ubrr0Low, Ubrr0High, Udr0}
 use Rattle.avr_serial.specs.declared.spi.Spi.{Spi}
@@ -8,8 +8,8 @@ use Rattle.avr_sheet.specs.BitNames.{SPIE, SPI2X, UDRIE0, TXCIE0}
 use Rattle.avr_sheet.specs.Bits.{is_set}
 use Rattle.avr_sheet.specs.Vectors.{SPI_STC, USART_UDRE, USART_TX}
 use Rattle.avr_serial.specs.Registers.{register_at}
-use Rattle.avr_serial.specs.Spi.{reset_spi, spsr_value, spsr_read, touched, spdr_written, start_answer, begun, spi_at}
-use Rattle.avr_serial.specs.Usart.{reset_usart, ucsr0a_value, ucsr0a_written, udr0_answer, udr0_written, is_empty, usart_at}
+use Rattle.avr_serial.specs.Spi.{reset_spi, spsr_value, spsr_read, touched, spdr_written, start_answer, begun, end_of_transfer, spi_at}
+use Rattle.avr_serial.specs.Usart.{reset_usart, ucsr0a_value, ucsr0a_written, udr0_answer, udr0_written, is_empty, end_of_frame, usart_at}
 use Rattle.avr_sheet.specs.declared.stop.DeviceStop.{DeviceStop}
 
 -- the registers and what is on its way, at a cycle count
@@ -105,6 +105,15 @@ exchanged s at miso = record s { spi = begun at miso s.spi }
 -- all at a later cycle count
 abbrev pub passed : SerialState → ℕ → SerialState
 passed s to = record { cycle = to; spi = spi_at to s.spi; usart = usart_at to s.usart }
+
+-- the next event: the first end of what is on its way, the transfer or the frame; the largest number of 64 bits where
+-- nothing is. SPIF and TXC rise, and a waiting byte is printed, at no other time
+abbrev pub next_event : SerialState → ℕ
+next_event s = min (end_of_transfer s.spi.transfer) (end_of_frame s.usart.frame)
+
+-- until then nothing changes but the cycle count
+abbrev pub StaysUntil : SerialState → ℕ → Type 0
+StaysUntil s until = (to : ℕ) → to < until → passed s to ≡ record s { cycle = to }
 
 -- the pending interrupt, by the word address of its vector: the lowest that is enabled and requested
 abbrev pub pending_vector : SerialState → Option ℕ

@@ -52,7 +52,7 @@ impl Default for Serial {
 }
 
 impl Serial {
-    ghost use Rattle.avr_serial.specs.Serial.{exchanged, passed, pending_vector, read_state, read_value, register_answer, register_read, register_value, register_written, reset_state, served_state, taken, write_answer, written};
+    ghost use Rattle.avr_serial.specs.Serial.{exchanged, next_event, StaysUntil, passed, pending_vector, read_state, read_value, register_answer, register_read, register_value, register_written, reset_state, served_state, taken, write_answer, written};
     ghost use Rattle.avr_serial.specs.Spi.{start_answer};
 
     /// The part after reset: UCSR0A reads 20, UCSR0C is 06, all other registers are 00, and nothing is on its way.
@@ -107,6 +107,17 @@ impl Serial {
         self.cycle = to;
         self.spi.pass(to);
         self.usart.pass(to);
+    }
+
+    /// The next event: the cycle count at which the transfer or the frame on its way ends, the earlier where both are, and
+    /// `u64::MAX` where nothing is on its way. Until then nothing changes but the count of cycles: no request comes, and no
+    /// waiting byte enters the shifter.
+    #[inline]
+    pub fn next_event(&self) -> u64
+        ensures value { result ≡ next_event self.now }
+        ensures stays { StaysUntil self.now result }
+    {
+        self.spi.end().min(self.usart.end())
     }
 
     /// The pending interrupt, by the word address of its vector: the lowest of those that are enabled and
