@@ -5,3 +5,4 @@ pub mod Swings
 pub mod Cuts
 pub mod Pieces
 pub mod Spans
+pub mod Quiet

@@ -2,6 +2,8 @@
 ghost use Rattle.std.specs.Prelude.{◌≡◌, ◌<◌, ◌≤◌, find};
 ghost use Rattle.avr_timer.specs.Timers.{reset_state, passed};
 ghost use Rattle.avr_timer.specs.Writes.{read_value, read_state, write_outcome, outcome_at, answer_of, left_by};
+ghost use Rattle.avr_timer.specs.Laws.{IsHeld};
+ghost use Rattle.avr_timer.specs.Quiet.{StaysQuiet};
 ghost use Rattle.avr_timer.specs.Requests.{pending_vector, served_state, is_requested, timer0_vectors, timer1_and_0_vectors};
 
 use crate::modes::{prescale_of, timer2_prescale_of};
@@ -190,6 +192,29 @@ impl Timers {
         } else {
             self.pending_of_1_and_0()
         }
+    }
+
+    /// A cycle count up to which no request of the timers comes, where none is pending at `now`, the count that was passed
+    /// last: that at which the next tick raises an enabled flag, `u64::MAX` where none does.
+    pub fn quiet_until(&self, now: u64) -> u64
+        ensures { StaysQuiet self.now now result }
+    {
+        let until0 = self.timer0.quiet_until(prescale_of(self.timer0.tccrb % 8), now);
+        let until1 = self.timer1.quiet_until(prescale_of(self.timer1.tccrb % 8), now);
+        let until2 = self.timer2.quiet_until(timer2_prescale_of(self.timer2.tccrb % 8), now);
+        until0.min(until1).min(until2)
+    }
+
+    /// The registers hold what fits in them: a fact for proofs, and nothing to run.
+    #[inline(always)]
+    pub fn fits(&self)
+        ensures { IsHeld self.now }
+    {
+        let (count0, compare0) = (self.timer0.tcnt, self.timer0.ocra);
+        let (count1, compare1, capture1) = (self.timer1.tcnt, self.timer1.ocra, self.timer1.icr);
+        let (count2, compare2) = (self.timer2.tcnt, self.timer2.ocra);
+        prove!(count0 <= 255 && compare0 <= 255 && count2 <= 255 && compare2 <= 255);
+        prove!(count1 <= 65535 && compare1 <= 65535 && capture1 <= 65535);
     }
 
     fn pending_of_1_and_0(&self) -> Option<u8>
