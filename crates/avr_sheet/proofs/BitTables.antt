@@ -17,14 +17,14 @@ cleared_by_mask = same_eight (λ (x : ℕ) v b. bit_and v (255 - 1 * 2 ^ b % 256
 one_bit : (set : Bool) (v b k : ℕ) → v < 256 → b < 8 → k < 8 → is_set (with_bit v b set) k ≡ (if k == b then set else is_set v k)
 one_bit true v b k v_in b_in k_in =
     let at_place = same_at (λ (x : ℕ) w. is_set (with_bit (w / 64) (w / 8 % 8) true) (w % 8))
-        (λ x w. if w % 8 == w / 8 % 8 then true else is_set (w / 64) (w % 8)) 0 0 16384 refl (v * 64 + b * 8 + k) (omega arith) (omega arith) in
+    (λ x w. if w % 8 == w / 8 % 8 then true else is_set (w / 64) (w % 8)) 0 0 16384 refl (v * 64 + b * 8 + k) (omega arith) (omega arith) in
     let byte : (v * 64 + b * 8 + k) / 64 ≡ v = omega arith in
     let place : (v * 64 + b * 8 + k) / 8 % 8 ≡ b = omega arith in
     let other : (v * 64 + b * 8 + k) % 8 ≡ k = omega arith in
     rw (byte, place, other) at at_place
 one_bit false v b k v_in b_in k_in =
     let at_place = same_at (λ (x : ℕ) w. is_set (with_bit (w / 64) (w / 8 % 8) false) (w % 8))
-        (λ x w. if w % 8 == w / 8 % 8 then false else is_set (w / 64) (w % 8)) 0 0 16384 refl (v * 64 + b * 8 + k) (omega arith) (omega arith) in
+    (λ x w. if w % 8 == w / 8 % 8 then false else is_set (w / 64) (w % 8)) 0 0 16384 refl (v * 64 + b * 8 + k) (omega arith) (omega arith) in
     let byte : (v * 64 + b * 8 + k) / 64 ≡ v = omega arith in
     let place : (v * 64 + b * 8 + k) / 8 % 8 ≡ b = omega arith in
     let other : (v * 64 + b * 8 + k) % 8 ≡ k = omega arith in
@@ -43,5 +43,5 @@ one_bit_changes v b set v_in b_in = record { bits = λ k k_in. one_bit set v b k
 pub bits_make_byte : BitsMakeByte
 bits_make_byte v v_in =
     same_at (λ (x : ℕ) v. weighed (is_set v 0) 1 + weighed (is_set v 1) 2 + weighed (is_set v 2) 4 + weighed (is_set v 3) 8
-        + weighed (is_set v 4) 16 + weighed (is_set v 5) 32 + weighed (is_set v 6) 64 + weighed (is_set v 7) 128)
+    + weighed (is_set v 4) 16 + weighed (is_set v 5) 32 + weighed (is_set v 6) 64 + weighed (is_set v 7) 128)
     (λ x v. v) 0 0 256 refl v (omega arith) (omega arith)

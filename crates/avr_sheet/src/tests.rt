@@ -14,7 +14,10 @@ fn bits_of_a_byte(rt: HostRuntime) -> Result<(), Fail> {
 
 #[test]
 fn stops(rt: HostRuntime) -> Result<(), Fail> {
-    assert_eq!(rt; DeviceStop::SpiMode { spcr: 0x58 }, DeviceStop::SpiMode { spcr: 0x58 });
+    assert_eq!(rt;
+        DeviceStop::SpiMode { spcr: 0x58 },
+        DeviceStop::SpiMode { spcr: 0x58 }
+    );
     assert_ne!(rt; DeviceStop::Adc, DeviceStop::Twi);
     Ok(())
 }

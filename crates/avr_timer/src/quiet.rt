@@ -65,5 +65,7 @@ pub fn cycle_of(prescale: u64, now: u64, number: u64) -> u64
     requires { 0 < prescale }
     ensures { (to : ℕ) → now ≤ to → to < result → ticks_between prescale now to < number }
 {
-    (now / prescale).saturating_add(number).saturating_mul(prescale)
+    (now / prescale)
+        .saturating_add(number)
+        .saturating_mul(prescale)
 }

@@ -199,9 +199,15 @@ impl Timers {
     pub fn quiet_until(&self, now: u64) -> u64
         ensures { StaysQuiet self.now now result }
     {
-        let until0 = self.timer0.quiet_until(prescale_of(self.timer0.tccrb % 8), now);
-        let until1 = self.timer1.quiet_until(prescale_of(self.timer1.tccrb % 8), now);
-        let until2 = self.timer2.quiet_until(timer2_prescale_of(self.timer2.tccrb % 8), now);
+        let until0 = self
+            .timer0
+            .quiet_until(prescale_of(self.timer0.tccrb % 8), now);
+        let until1 = self
+            .timer1
+            .quiet_until(prescale_of(self.timer1.tccrb % 8), now);
+        let until2 = self
+            .timer2
+            .quiet_until(timer2_prescale_of(self.timer2.tccrb % 8), now);
         until0.min(until1).min(until2)
     }
 

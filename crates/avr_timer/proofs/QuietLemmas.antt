@@ -44,21 +44,25 @@ quiet-after timsk f course c a b k now later = record {
 }
 
 -- a timer that runs is quiet as long as its ticks are
-pub stays8 : (p number : ℕ) (course : Course) (t : Timer8) (now until : ℕ)
+pub stays8 : (prescale : Option ℕ) (p number : ℕ) (course : Course) (t : Timer8) (now until : ℕ)
+    → prescale ≡ Some p → course8 (mode8 t) t.ocra ≡ Some course
     → ((to : ℕ) → now ≤ to → to < until → ticks_between p now to < number)
     → ((k : ℕ) → k < number → IsQuietFor t.timsk course (counter8 t) t.ocra t.ocrb k)
-    → IsQuiet t.timsk t.flags → (to : ℕ) → now ≤ to → to < until → IsQuiet t.timsk (passed8_by (Some p) (Some course) t now to).flags
+    → StaysQuiet8 prescale t now until
 unfolding run8
-stays8 p number course t now until ticks quiet at_now to order early =
-    quiet-after t.timsk t.flags course (counter8 t) t.ocra t.ocrb (ticks_between p now to) at_now (quiet (ticks_between p now to) (ticks to order early))
+stays8 prescale p number course t now until runs mode ticks quiet at_now to order early =
+    rw (runs, mode) (quiet-after t.timsk t.flags course (counter8 t) t.ocra t.ocrb (ticks_between p now to) at_now
+    (quiet (ticks_between p now to) (ticks to order early)))
 
-pub stays16 : (p number : ℕ) (course : Course) (t : Timer16) (now until : ℕ)
+pub stays16 : (prescale : Option ℕ) (p number : ℕ) (course : Course) (t : Timer16) (now until : ℕ)
+    → prescale ≡ Some p → course16 (mode16 t) t.ocra t.icr ≡ Some course
     → ((to : ℕ) → now ≤ to → to < until → ticks_between p now to < number)
     → ((k : ℕ) → k < number → IsQuietFor t.timsk course (counter16 t) t.ocra t.ocrb k)
-    → IsQuiet t.timsk t.flags → (to : ℕ) → now ≤ to → to < until → IsQuiet t.timsk (passed16_by (Some p) (Some course) t now to).flags
+    → StaysQuiet16 prescale t now until
 unfolding run16
-stays16 p number course t now until ticks quiet at_now to order early =
-    quiet-after t.timsk t.flags course (counter16 t) t.ocra t.ocrb (ticks_between p now to) at_now (quiet (ticks_between p now to) (ticks to order early))
+stays16 prescale p number course t now until runs mode ticks quiet at_now to order early =
+    rw (runs, mode) (quiet-after t.timsk t.flags course (counter16 t) t.ocra t.ocrb (ticks_between p now to) at_now
+    (quiet (ticks_between p now to) (ticks to order early)))
 
 timsk8-kept : (p : Option ℕ) (o : Option Course) (t : Timer8) (a b : ℕ) → t.timsk ≡ (passed8_by p o t a b).timsk
 unfolding run8
