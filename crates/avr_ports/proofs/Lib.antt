@@ -1,2 +1,4 @@
 pub mod Bytes
 pub mod Pins
+pub mod Edges
+pub mod Alone

@@ -7,6 +7,7 @@
 #![tactic(auto)]
 
 mod external;
+pub mod laws;
 mod port;
 mod ports;
 mod register;

@@ -165,13 +165,17 @@ impl Ports {
         }
     }
 
-    /// The chip's interrupt line INTn goes to a level. It drives PD2 where that is an input.
+    /// The chip's interrupt line INTn goes to a level. It drives PD2 where that is an input. Returns at once where the line
+    /// stays.
+    #[inline]
     pub fn int_level(&mut self, high: bool)
         ensures { self.new ≡ with_edges self.old (record self.old { int_high = high }) }
     {
-        let before = *self;
-        self.int_high = high;
-        self.raise_flags(&before);
+        if high != self.int_high {
+            let before = *self;
+            self.int_high = high;
+            self.raise_flags(&before);
+        }
     }
 
     /// Whether the chip's select line SCSn is low: PB2 is an output and its PORT bit is 0.
