@@ -4,6 +4,8 @@ pub mod Blocks
 pub mod CommonBlock
 pub mod Registers
 pub mod Positions
+pub mod Sending
+pub mod Receiving
 pub mod Life
 pub mod Sizes
 pub mod Streams
