@@ -124,6 +124,7 @@ impl Ports {
 
     /// The pending interrupt, by the word address of its vector: the lowest of those that are enabled and
     /// requested. `None` exactly where there is none.
+    #[inline]
     pub fn pending(&self) -> Option<u8>
         ensures { result ≡ pending_vector self.now }
     {
@@ -179,6 +180,7 @@ impl Ports {
     }
 
     /// Whether the chip's select line SCSn is low: PB2 is an output and its PORT bit is 0.
+    #[inline]
     pub fn select_low(&self) -> bool
         ensures { result ≡ is_select_low self.now }
     {

@@ -99,6 +99,7 @@ impl Serial {
     }
 
     /// The cycles from one count to another go by.
+    #[inline]
     pub fn pass(&mut self, from: u64, to: u64)
         requires { from ≤ to }
         ensures { self.new ≡ passed self.old to }
@@ -122,6 +123,7 @@ impl Serial {
 
     /// The pending interrupt, by the word address of its vector: the lowest of those that are enabled and
     /// requested. `None` exactly where there is none.
+    #[inline]
     pub fn pending(&self) -> Option<u8>
         ensures { result ≡ pending_vector self.now }
     {
@@ -168,6 +170,7 @@ impl Serial {
 
     /// Takes the byte that entered the USART's shifter since the last call, the last where there was more than
     /// one. `None` exactly where none did.
+    #[inline]
     pub fn printed(&mut self) -> Option<u8>
         ensures value { result ≡ self.old.usart.printed }
         ensures state { self.new ≡ taken self.old }

@@ -166,6 +166,7 @@ impl Timers {
     }
 
     /// The time passes from one count of cycles since reset to another. A timer that stands is left as it is.
+    #[inline]
     pub fn pass(&mut self, from: u64, to: u64)
         requires { from ≤ to }
         ensures { self.new ≡ passed self.old from to }
@@ -180,6 +181,7 @@ impl Timers {
 
     /// The pending interrupt, by the word address of its vector: the lowest whose flag is set and that is enabled.
     /// `None` exactly where there is none.
+    #[inline]
     pub fn pending(&self) -> Option<u8>
         ensures { result ≡ pending_vector self.now }
     {
