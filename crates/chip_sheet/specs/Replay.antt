@@ -3,7 +3,9 @@ use Rattle.std.specs.Prelude.{ℕ, true, false, List, [], ◌∷◌, Some, None}
 use Rattle.board_bus.specs.declared.event.BusEvent.{BusEvent}
 use Rattle.board_bus.specs.declared.event.BusAnswer.{BusAnswer}
 use Rattle.chip_sheet.specs.declared.stop.ChipStop.{ChipStop}
-use Rattle.chip_sheet.specs.Past.{Past, Bus, Link, LinkEntry}
+use Rattle.chip_sheet.specs.declared.event.Entry.TheVariants.{Bus, Link}
+use Rattle.chip_sheet.specs.declared.event.LinkEntry.{LinkEntry}
+use Rattle.chip_sheet.specs.Past.{Past}
 use Rattle.chip_sheet.specs.Streams.{Starts}
 use Rattle.chip_sheet.specs.Answers.{answer}
 use Rattle.chip_sheet.specs.Stops.{stop}
