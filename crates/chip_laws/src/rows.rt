@@ -1,6 +1,6 @@
 // More worked rows of a socket's life: what a list of steps from the start is answered, computed by the check.
 ghost use Rattle.std.specs.Prelude.{◌≡◌, [], ◌∷◌};
-ghost use Rattle.chip_sheet.specs.Past.{Linked, Accepted, Refused, TimedOut, Got, Ended, Shut, Failed};
+ghost use Rattle.chip_sheet.specs.declared.event.LinkEntry.TheVariants.{Linked, Accepted, Refused, TimedOut, Got, Ended, Shut, Failed};
 ghost use Rattle.chip_sheet.specs.Streams.{supplied, got};
 ghost use Rattle.chip_sheet.specs.Replay.{Happens, told, from_zero, frame, linked, write_register, send_to, read_pair, read_one, shows, ends_well, ends_unfit};
 

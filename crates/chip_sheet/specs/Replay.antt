@@ -6,7 +6,10 @@ use Rattle.board_bus.specs.declared.event.BusAnswer.{BusAnswer}
 use Rattle.board_bus.specs.declared.event.BusAnswer.TheVariants.{Done, Out, Level}
 use Rattle.chip_sheet.specs.declared.stop.ChipStop.{ChipStop}
 use Rattle.chip_sheet.specs.declared.socket.Due.{Due}
-use Rattle.chip_sheet.specs.Past.{Past, Bus, Link, LinkEntry, Linked}
+use Rattle.chip_sheet.specs.declared.event.Entry.TheVariants.{Bus, Link}
+use Rattle.chip_sheet.specs.declared.event.LinkEntry.{LinkEntry}
+use Rattle.chip_sheet.specs.declared.event.LinkEntry.TheVariants.{Linked}
+use Rattle.chip_sheet.specs.Past.{Past}
 use Rattle.chip_sheet.specs.Streams.{Starts}
 use Rattle.chip_sheet.specs.Answers.{answer}
 use Rattle.chip_sheet.specs.Stops.{stop}

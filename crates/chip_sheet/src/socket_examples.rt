@@ -1,6 +1,6 @@
 // Worked examples of the sockets' definitions: what a list of steps from the start is answered, computed by the check.
 ghost use Rattle.std.specs.Prelude.{◌≡◌, [], ◌∷◌};
-ghost use Rattle.chip_sheet.specs.Past.{Linked, Accepted, Took, Got, Ended, Shut, Failed, Dropped};
+ghost use Rattle.chip_sheet.specs.declared.event.LinkEntry.TheVariants.{Linked, Accepted, Took, Got, Ended, Shut, Failed, Dropped};
 ghost use Rattle.chip_sheet.specs.Replay.{Happens, low, high, look, bytes, frame, linked, write_register, send_to, read_pair, read_one, shows, due_behind, ends_well, ends_stopped, ends_unfit};
 ghost use Rattle.chip_sheet.specs.declared.socket.Due.TheVariants as due;
 ghost use Rattle.chip_sheet.specs.declared.stop.ChipStop.TheVariants.{ReservedBlock, Pppoe, SizeWhileOpen, OverwriteInFlight, SendMac, RawEthernet, BadBufferSize, SendTooLong, RecvPastEnd};
