@@ -1,6 +1,8 @@
 -- A socket goes on with each entry of a history.
-use Rattle.std.proofs.Common.{◌≡◌, ℕ, ◌/◌, ◌%◌, Bool, true, false, not, ◌&&◌, ◌||◌, ◌==◌, cond, [], ◌∷◌, Option, Some, None, refl, sym, ap, ◌∙◌}
-use Rattle.std.proofs.lemmas.Bool.{false≢true}
+use Rattle.std.proofs.Common.{◌≡◌, ℕ, ◌/◌, ◌%◌, ◌<◌, Bool, true, false, not, ◌&&◌, ◌||◌, ◌==◌, cond, List, [], ◌∷◌, length, get_or, Option, Some, None, slice_get, set, get_or-set_same, get_or-set_other, inl, inr, refl, sym, ap, subst, ◌∙◌, arith}
+use Rattle.std.proofs.lemmas.Bool.{false≢true, cases_eq}
+use Rattle.std.proofs.lemmas.List.{length-set}
+use Rattle.std.proofs.lemmas.Option.{slice_get_within, slice_get-get_or, get_or_from_slice_get}
 use Rattle.chip_sheet.specs.declared.event.Addr.{Addr}
 use Rattle.chip_sheet.specs.declared.socket.Status.{Status}
 use Rattle.chip_sheet.specs.declared.socket.Status.TheVariants.{Closed, Init}
@@ -16,7 +18,7 @@ use Rattle.chip_sheet.specs.Windows.{flight, rx_free}
 use Rattle.chip_sheet.specs.LinkCalls.{keeps_address, keeps_port, kept_address, kept_port, outgoing, outgoing_of, incoming, incoming_of, due_at}
 use Rattle.chip_sheet.proofs.LifeSteps.{life_cases}
 use Rattle.sock_cmd.specs.declared.life.Life.{Life}
-use Rattle.sock_cmd.specs.Lives.{life_of, address_of, port_of, Happened, IsAfter, due_of}
+use Rattle.sock_cmd.specs.Lives.{life_of, address_of, port_of, Happened, IsAfter, AllAfter, due_of}
 
 -- What is kept: the newer where it is, else what was kept before.
 kept_along : {A : Type 0} (keeps : Status → Bool) (s t : Status) (newer before earlier : A) → s ≡ t → before ≡ earlier
@@ -126,3 +128,28 @@ due_is starts past place socket is =
     ap (λ (l : sheet.Life). incoming_of n l (port_of socket) (rx_free starts past n)) is.life
     ∙ ap (λ (port : ℕ). incoming_of n (sheet.life past n) port (rx_free starts past n)) is.port in
     cond_along (place % 2 == 0) _ _ _ _ out in_
+
+-- The same of a list of sockets.
+pub all_stay : (sockets : List Life) (past : Past) (entry : Entry) → AllAfter sockets past → ((n : ℕ) → cause past n entry ≡ because.Nothing)
+    → AllAfter sockets (entry ∷ past)
+all_stay sockets past entry all nothing n socket there = stays socket past entry n (all n socket there) (nothing n)
+
+-- A list of sockets of which one goes on, while nothing happens to the others.
+pub one_goes_on : (sockets : List Life) (past : Past) (entry : Entry) (n : ℕ) (after : Life) → AllAfter sockets past → n < length sockets
+    → IsAfter after (entry ∷ past) n → ((m : ℕ) → (m ≡ n → ⊥) → cause past m entry ≡ because.Nothing) → AllAfter (set sockets n after) (entry ∷ past)
+one_goes_on sockets past entry n after all within is nothing m socket there =
+    let now = set sockets n after in
+    let read : get_or now m socket ≡ socket = get_or_from_slice_get now m socket socket there in
+    elim (cases_eq m n) [
+      | inl same ↦
+          let found : after ≡ socket = sym (get_or-set_same sockets n after socket within) ∙ ap (λ (k : ℕ). get_or now k socket) (sym same) ∙ read in
+          let P : Life → Type 0 = λ (l : Life). IsAfter l (entry ∷ past) m in
+          let Q : ℕ → Type 0 = λ (k : ℕ). IsAfter after (entry ∷ past) k in
+          subst P found (subst Q (sym same) is)
+      | inr other ↦
+          let in_list : m < length sockets = omega (arith, slice_get_within now m socket there, length-set sockets n after) in
+          let before : slice_get sockets m ≡ Some socket =
+          slice_get-get_or sockets m socket in_list
+          ∙ ap (λ (l : Life). Some l) (sym (get_or-set_other sockets n m after socket other) ∙ read) in
+          stays socket past entry m (all m socket before) (nothing m other)
+    ]

@@ -1,5 +1,5 @@
 -- The socket that a `Life` is, as the definitions have it.
-use Rattle.std.specs.Prelude.{◌≡◌, ℕ, ◌/◌, ◌%◌, ◌==◌, if◌then◌else◌}
+use Rattle.std.specs.Prelude.{◌≡◌, ℕ, ◌/◌, ◌%◌, ◌==◌, List, Some, slice_get, if◌then◌else◌}
 use Rattle.chip_sheet.specs.declared.event.Addr.{Addr}
 use Rattle.chip_sheet.specs.declared.socket.Cause.{Cause}
 use Rattle.chip_sheet.specs.declared.socket.Due.{Due}
@@ -37,6 +37,10 @@ pub record IsAfter (socket : Life) (past : Past) (n : ℕ) : Type 0 where
   pub life : life_of socket ≡ sheet.life past n
   pub address : address_of socket ≡ kept_address past n
   pub port : port_of socket ≡ kept_port past n
+
+-- The sockets of a list are those of this past, by their places in it.
+abbrev pub AllAfter : List Life → Past → Type 0
+AllAfter sockets past = (n : ℕ) (socket : Life) → slice_get sockets n ≡ Some socket → IsAfter socket past n
 
 -- The link call that is due at a place, where the socket is the one of that place: 2n is the outgoing place of socket n, and 2n + 1
 -- its incoming one.

@@ -1,5 +1,5 @@
 // Laws of a socket's life, for the chip that holds eight of them; each is the contract of an empty function.
-ghost use Rattle.std.specs.Prelude.{◌≡◌, ◌↔◌, ℕ, ◌/◌, Bool, [], ◌∷◌, None, true, false};
+ghost use Rattle.std.specs.Prelude.{◌≡◌, ◌<◌, ℕ, ◌/◌, Bool, List, [], ◌∷◌, length, slice_set, None};
 ghost use Rattle.chip_sheet.specs.declared.socket.Status.{Status};
 ghost use Rattle.chip_sheet.specs.declared.socket.Cause.{Cause};
 ghost use Rattle.chip_sheet.specs.declared.socket.Cause.TheVariants as because;
@@ -12,7 +12,7 @@ ghost use Rattle.chip_sheet.specs.Windows.{flight, rx_free};
 ghost use Rattle.chip_sheet.specs.LinkCalls.{due_at};
 ghost use Rattle.chip_sheet.specs.Stops.{CommandFacts, first, command_stop, send_busy, send_too_long, recv_past_end};
 ghost use Rattle.sock_cmd.specs.declared.life.Life.{Life};
-ghost use Rattle.sock_cmd.specs.Lives.{Happened, IsAfter, due_of};
+ghost use Rattle.sock_cmd.specs.Lives.{Happened, IsAfter, AllAfter, due_of};
 ghost use Rattle.sock_cmd.specs.LifeStops.{life_stop};
 ghost use Rattle.sock_cmd.specs.Effects.{effect_of, Means};
 
@@ -25,6 +25,13 @@ pub fn goes_on()
 /// An entry that is nothing for a socket leaves it as it is.
 pub fn stays()
     ensures { (socket : Life) (past : Past) (entry : Entry) (n : ℕ) → IsAfter socket past n → cause past n entry ≡ because.Nothing → IsAfter socket (entry ∷ past) n }
+{}
+
+/// Sockets that are those of a past are those of it with an entry that is nothing for any of them, and so are they where one of them
+/// goes on and the entry is nothing for the others.
+pub fn sockets_go_on()
+    ensures none { (sockets : List Life) (past : Past) (entry : Entry) → AllAfter sockets past → ((n : ℕ) → cause past n entry ≡ because.Nothing) → AllAfter sockets (entry ∷ past) }
+    ensures one { (sockets : List Life) (past : Past) (entry : Entry) (n : ℕ) (after : Life) → AllAfter sockets past → n < length sockets → IsAfter after (entry ∷ past) n → ((m : ℕ) → (m ≡ n → ⊥) → cause past m entry ≡ because.Nothing) → AllAfter (slice_set sockets n after) (entry ∷ past) }
 {}
 
 /// What a socket answers at a place is the link call that is due there after its past.

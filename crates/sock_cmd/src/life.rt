@@ -208,8 +208,8 @@ impl Life {
         let c = self.connection(sn);
         match self.status {
             Status::SynSent => Due::Connect(c, self.address),
-            Status::Established | Status::CloseWait if 0 < in_flight => Due::Write(c),
-            Status::FinWait | Status::LastAck if 0 < in_flight => Due::Write(c),
+            Status::Established | Status::CloseWait | Status::FinWait | Status::LastAck
+                if 0 < in_flight => Due::Write(c),
             Status::FinWait | Status::LastAck if !self.shut => Due::Shut(c),
             Status::Udp if 0 < in_flight => Due::SendTo(c, self.port, self.address),
             _ => Due::Nothing,
