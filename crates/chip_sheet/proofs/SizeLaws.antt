@@ -11,7 +11,11 @@ use Rattle.chip_sheet.specs.declared.socket.Status.TheVariants.{Closed}
 use Rattle.chip_sheet.specs.declared.socket.Cause.{Cause}
 use Rattle.chip_sheet.specs.declared.socket.Cause.TheVariants as because
 use Rattle.chip_sheet.specs.declared.stop.ChipStop.TheVariants.{SizeWhileOpen}
-use Rattle.chip_sheet.specs.Past.{Past, Entry, Bus, Link, Rest, LinkEntry, Linked}
+use Rattle.chip_sheet.specs.declared.event.Entry.{Entry}
+use Rattle.chip_sheet.specs.declared.event.Entry.TheVariants.{Bus, Link, Rest}
+use Rattle.chip_sheet.specs.declared.event.LinkEntry.{LinkEntry}
+use Rattle.chip_sheet.specs.declared.event.LinkEntry.TheVariants.{Linked}
+use Rattle.chip_sheet.specs.Past.{Past}
 use Rattle.chip_sheet.specs.Frames.{access, access_of}
 use Rattle.chip_sheet.specs.Blocks.{sockets, block_of, registers_of}
 use Rattle.chip_sheet.specs.Registers.{is_reset, last_written, written_after}

@@ -1,6 +1,9 @@
 -- What stands in a history of the connections of a socket, each named by the number of its life, and counts over all lives.
 use Rattle.std.specs.Prelude.{ℕ, zero, suc, ◌+◌, Bool, true, false, ◌==◌, ◌&&◌, ◌||◌, [], ◌∷◌, length, Option, Some, None}
-use Rattle.chip_sheet.specs.Past.{Past, Bus, Link, Rest, LinkEntry, Took, Got, Datagram, Dropped}
+use Rattle.chip_sheet.specs.declared.event.Entry.TheVariants.{Bus, Link, Rest}
+use Rattle.chip_sheet.specs.declared.event.LinkEntry.{LinkEntry}
+use Rattle.chip_sheet.specs.declared.event.LinkEntry.TheVariants.{Took, Got, Datagram, Dropped}
+use Rattle.chip_sheet.specs.Past.{Past}
 use Rattle.chip_sheet.specs.Life.{lives, old}
 use Rattle.chip_sheet.specs.Streams.{Starts, is_of, sent, taken, got}
 

@@ -8,7 +8,8 @@ use Rattle.chip_sheet.specs.declared.socket.Cause.{Cause}
 use Rattle.chip_sheet.specs.declared.socket.Cause.TheVariants as because
 use Rattle.chip_sheet.specs.declared.socket.Interrupt.{Interrupt}
 use Rattle.chip_sheet.specs.declared.socket.Interrupt.TheVariants.{Connected, Disconnected, Received, TimedOut, SendOk}
-use Rattle.chip_sheet.specs.Past.{Past, Entry}
+use Rattle.chip_sheet.specs.declared.event.Entry.{Entry}
+use Rattle.chip_sheet.specs.Past.{Past}
 use Rattle.chip_sheet.specs.Frames.{access_of}
 use Rattle.chip_sheet.specs.Bits.{has_bit}
 use Rattle.chip_sheet.specs.Names.{sn_ir, sn_imr, simr}

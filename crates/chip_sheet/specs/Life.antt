@@ -6,7 +6,11 @@ use Rattle.chip_sheet.specs.declared.socket.Status.{Status}
 use Rattle.chip_sheet.specs.declared.socket.Status.TheVariants.{Closed, Init, Listen, SynSent, Established, FinWait, CloseWait, LastAck, Udp}
 use Rattle.chip_sheet.specs.declared.socket.Cause.{Cause}
 use Rattle.chip_sheet.specs.declared.socket.Cause.TheVariants as because
-use Rattle.chip_sheet.specs.Past.{Past, Entry, Bus, Link, Rest, LinkEntry, Linked, Accepted, Refused, TimedOut, Took, Got, Datagram, Ended, Shut, Failed, Dropped}
+use Rattle.chip_sheet.specs.declared.event.Entry.{Entry}
+use Rattle.chip_sheet.specs.declared.event.Entry.TheVariants.{Bus, Link, Rest}
+use Rattle.chip_sheet.specs.declared.event.LinkEntry.{LinkEntry}
+use Rattle.chip_sheet.specs.declared.event.LinkEntry.TheVariants.{Linked, Accepted, Refused, TimedOut, Took, Got, Datagram, Ended, Shut, Failed, Dropped}
+use Rattle.chip_sheet.specs.Past.{Past}
 use Rattle.chip_sheet.specs.Frames.{access_of}
 use Rattle.chip_sheet.specs.Names.{sn_mr, sn_cr, tcp, udp, open_command, listen_command, connect_command, discon_command, close_command, send_command, recv_command}
 use Rattle.chip_sheet.specs.Blocks.{registers_of}

@@ -3,8 +3,9 @@ use Rattle.std.specs.Prelude.{ℕ, List}
 use Rattle.chip_sheet.specs.declared.event.Addr.{Addr}
 use Rattle.chip_sheet.specs.declared.socket.Due.{Due}
 use Rattle.chip_sheet.specs.declared.socket.Due.TheVariants as due
-use Rattle.chip_sheet.specs.Past.{Entry, Link, Rest}
-use Rattle.chip_sheet.specs.Past as entry
+use Rattle.chip_sheet.specs.declared.event.Entry.{Entry}
+use Rattle.chip_sheet.specs.declared.event.Entry.TheVariants.{Link, Rest}
+use Rattle.chip_sheet.specs.declared.event.LinkEntry.TheVariants as entry
 
 -- What a link call is answered, with what it brings.
 pub data LinkAnswer : Type 0 where

@@ -7,10 +7,10 @@ use Rattle.chip_sheet.specs.declared.event.LinkWhat.{LinkWhat}
 use Rattle.chip_sheet.specs.declared.event.LinkWhat.TheVariants as what
 use Rattle.chip_sheet.specs.declared.event.Event.{Event}
 use Rattle.chip_sheet.specs.declared.event.Event.TheVariants as event
-pub use Rattle.chip_sheet.specs.declared.event.LinkEntry.{LinkEntry}
-pub use Rattle.chip_sheet.specs.declared.event.LinkEntry.TheVariants.{Linked, Accepted, Refused, TimedOut, Took, Got, Datagram, Ended, Shut, Failed, Dropped}
-pub use Rattle.chip_sheet.specs.declared.event.Entry.{Entry}
-pub use Rattle.chip_sheet.specs.declared.event.Entry.TheVariants.{Bus, Link, Rest}
+use Rattle.chip_sheet.specs.declared.event.LinkEntry.{LinkEntry}
+use Rattle.chip_sheet.specs.declared.event.LinkEntry.TheVariants.{Linked, Accepted, Refused, TimedOut, Took, Got, Datagram, Ended, Shut, Failed, Dropped}
+use Rattle.chip_sheet.specs.declared.event.Entry.{Entry}
+use Rattle.chip_sheet.specs.declared.event.Entry.TheVariants.{Bus, Link, Rest}
 
 -- What happened before a moment, the newest first.
 abbrev pub Past : Type 0

@@ -2,7 +2,10 @@
 use Rattle.std.specs.Prelude.{ℕ, ◌+◌, ◌-◌, ◌==◌, List, [], ◌∷◌, slice_index, unwrap_or, if◌then◌else◌}
 use Rattle.chip_sheet.specs.declared.event.Addr.{Addr}
 use Rattle.chip_sheet.specs.declared.phase.Access.{Access}
-use Rattle.chip_sheet.specs.Past.{Past, Bus, Link, Rest, LinkEntry, Accepted}
+use Rattle.chip_sheet.specs.declared.event.Entry.TheVariants.{Bus, Link, Rest}
+use Rattle.chip_sheet.specs.declared.event.LinkEntry.{LinkEntry}
+use Rattle.chip_sheet.specs.declared.event.LinkEntry.TheVariants.{Accepted}
+use Rattle.chip_sheet.specs.Past.{Past}
 use Rattle.chip_sheet.specs.Frames.{access_of}
 use Rattle.chip_sheet.specs.Names.{sn_dipr, sn_dport, sn_port}
 use Rattle.chip_sheet.specs.Blocks.{registers_of}

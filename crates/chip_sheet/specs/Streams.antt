@@ -7,7 +7,10 @@ use Rattle.chip_sheet.specs.declared.socket.Status.{Status}
 use Rattle.chip_sheet.specs.declared.socket.Status.TheVariants.{Established, FinWait, CloseWait, LastAck, Udp}
 use Rattle.chip_sheet.specs.declared.socket.Cause.{Cause}
 use Rattle.chip_sheet.specs.declared.socket.Cause.TheVariants as because
-use Rattle.chip_sheet.specs.Past.{Past, Bus, Link, Rest, LinkEntry, Linked, Accepted, Took, Got, Datagram}
+use Rattle.chip_sheet.specs.declared.event.Entry.TheVariants.{Bus, Link, Rest}
+use Rattle.chip_sheet.specs.declared.event.LinkEntry.{LinkEntry}
+use Rattle.chip_sheet.specs.declared.event.LinkEntry.TheVariants.{Linked, Accepted, Took, Got, Datagram}
+use Rattle.chip_sheet.specs.Past.{Past}
 use Rattle.chip_sheet.specs.Frames.{access_of}
 use Rattle.chip_sheet.specs.Names.{sn_tx_wr, sn_rx_rd}
 use Rattle.chip_sheet.specs.Blocks.{registers_of, tx_buffer_of}

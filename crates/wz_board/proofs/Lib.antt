@@ -1,3 +1,4 @@
+mod Causes
 mod Each
 mod Fronts
 mod Heads

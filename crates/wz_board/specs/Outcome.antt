@@ -4,16 +4,19 @@ use Rattle.board_bus.specs.declared.event.BusEvent.{BusEvent}
 use Rattle.chip_sheet.specs.declared.stop.Unbuilt.{Unbuilt}
 use Rattle.chip_sheet.specs.declared.stop.Unbuilt.TheVariants as stops
 use Rattle.chip_sheet.specs.Past.{Past, GoesOn}
+use Rattle.chip_sheet.specs.BuiltLegal.{BuiltLegal}
+use Rattle.wz_base.specs.Outside.{RisesOnly}
 use Rattle.wz_base.specs.Whole.{Appends, AppendsFront}
 use Rattle.wz_board.specs.declared.end.Refusal.{Refusal}
 use Rattle.wz_board.specs.declared.end.Refusal.TheVariants as refusals
 use Rattle.wz_board.specs.declared.end.EndKind.{EndKind}
 use Rattle.wz_board.specs.declared.end.EndKind.TheVariants.{Done, WriteFault, NoMemory, Refused}
+use Rattle.wz_board.specs.declared.end.QuickEnd.{QuickEnd}
 use Rattle.wz_board.specs.declared.quick.TheConstants.{TEXT_LIMIT}
 use Rattle.wz_board.specs.Ends.{fault_text}
 use Rattle.ihex.specs.declared.fault.HexFault.{HexFault}
 use Rattle.ihex.specs.Flash.{written}
-use Rattle.ihex.specs.Image.{erased}
+use Rattle.flash.specs.Image.{erased}
 use Rattle.ihex.specs.Text.{data_in, fault_in}
 use Rattle.wz_board.specs.Listing.{listing}
 use Rattle.wz_board.specs.Words.{Asked, Bus, ListOf, operand_of}
@@ -83,6 +86,12 @@ Fits ReadFault = Unit {0}
 Fits TooLong = Unit {0}
 Fits NoRoom = Unit {0}
 
+-- What was read has its cause, by the counts of the files before and after: no file exactly where the count of misses rose, and
+-- a failed read exactly where the count of faults rose.
+pub record HasCause (misses misses_now faults faults_now : ℕ) (reading : Reading) : Type 0 where
+  pub missed : RisesOnly (reading ≡ NoFile) misses misses_now
+  pub failed : RisesOnly (reading ≡ ReadFault) faults faults_now
+
 -- What a command comes to, whose operand was read like this.
 abbrev pub outcome_of : Asked → Reading → Outcome
 outcome_of form (Whole text) = text_outcome form text
@@ -91,7 +100,7 @@ outcome_of form ReadFault = refused refusals.ReadFault
 outcome_of form TooLong = refused refusals.TooLong
 outcome_of form NoRoom = record { end = NoMemory; past = []; text = [] }
 
--- The history and the text are fronts of what they should be.
+-- The history and the text are prefixes of what they should be.
 abbrev pub IsCut : Outcome → Past → Option (List ℕ) → Option (List ℕ) → Type 0
 IsCut o past old new = GoesOn past o.past × AppendsFront old o.text new
 
@@ -99,7 +108,7 @@ IsCut o past old new = GoesOn past o.past × AppendsFront old o.text new
 abbrev pub IsWhole : Outcome → EndKind → Past → Option (List ℕ) → Option (List ℕ) → Type 0
 IsWhole o end past old new = (end ≡ o.end) × (past ≡ o.past) × Appends old o.text new
 
--- What is given of an outcome: the whole of it, or a front where a write failed or memory was not there.
+-- What is given of an outcome: the whole of it, or a prefix where a write failed or memory ran out.
 abbrev pub Shows : Outcome → EndKind → Past → Option (List ℕ) → Option (List ℕ) → Type 0
 Shows o WriteFault past old new = IsCut o past old new
 Shows o NoMemory past old new = IsCut o past old new
@@ -118,9 +127,27 @@ IsOwn (Refused refusals.TooLong) = ⊥
 IsOwn (Refused (refusals.Hex fault)) = Unit {0}
 IsOwn (Refused refusals.NotBuilt) = Unit {0}
 
--- What the words come to over these files: a refusal where they are no written form; else the outcome of what was read of
--- the operand.
-abbrev pub Reports : Option (List ℕ → Option (List ℕ)) → Option Asked → EndKind → Past → Option (List ℕ) → Option (List ℕ) → Type 0
-Reports files None end past old new = Shows (refused refusals.Usage) end past old new
-Reports files (Some form) end past old new =
-    (reading : Reading) × MayRead files (operand_of form) reading × Fits reading × Shows (outcome_of form reading) end past old new
+-- What a command that has read its operand leaves, over a sink that had this text and this count of faults before and after: the
+-- outcome's end, history and text; a history that the chip as it is built allows; and a write fault exactly where the count rose.
+pub record Ran (o : Outcome) (r : QuickEnd) (old new : Option (List ℕ)) (before after : ℕ) : Type 0 where
+  pub shows : Shows o r.end r.history.past old new
+  pub legal : BuiltLegal r.history.past
+  pub own : IsOwn r.end
+  pub causes : RisesOnly (r.end ≡ WriteFault) before after
+
+-- What a command comes to over these files, whose counts were these before and after: the outcome of what was read of its operand,
+-- and what was read is what the files may give and has its cause.
+pub record ReportsOf (files : Option (List ℕ → Option (List ℕ))) (misses misses_now faults faults_now : ℕ) (form : Asked)
+    (end : EndKind) (past : Past) (old new : Option (List ℕ)) : Type 0 where
+  pub reading : Reading
+  pub may : MayRead files (operand_of form) reading
+  pub fits : Fits reading
+  pub cause : HasCause misses misses_now faults faults_now reading
+  pub shows : Shows (outcome_of form reading) end past old new
+
+-- What the words come to over these files: where they are no written form, a refusal, and nothing is read.
+abbrev pub Reports : Option (List ℕ → Option (List ℕ)) → ℕ → ℕ → ℕ → ℕ → Option Asked → EndKind → Past → Option (List ℕ) → Option (List ℕ) → Type 0
+Reports files misses misses_now faults faults_now None end past old new =
+    (misses_now ≡ misses) × (faults_now ≡ faults) × Shows (refused refusals.Usage) end past old new
+Reports files misses misses_now faults faults_now (Some form) end past old new =
+    ReportsOf files misses misses_now faults faults_now form end past old new

@@ -1,4 +1,4 @@
-// How a command ends.
+//! How a command ends, and what it prints of a refusal.
 ghost use Rattle.std.specs.Prelude.{◌≡◌, string_bytes, IfOk};
 ghost use Rattle.wz_board.specs.Ends.{fault_text, hex_text, kind_text, status_of, IsPlain};
 
@@ -15,7 +15,7 @@ pub enum Refusal {
     NoFile,
     /// The file could not be read.
     ReadFault,
-    /// The file has more than 67,108,864 bytes.
+    /// The file has more than [`TEXT_LIMIT`](crate::quick::TEXT_LIMIT) bytes.
     TooLong,
     /// The text is no Intel HEX image.
     Hex(HexFault),
@@ -28,9 +28,9 @@ pub enum Refusal {
 pub enum EndKind {
     /// It finished.
     Done,
-    /// The sink took no more of its text.
+    /// A call of the sink failed, and its count of faults rose.
     WriteFault,
-    /// Memory was not there.
+    /// It ran out of memory.
     NoMemory,
     /// It was refused.
     Refused(Refusal),
@@ -45,6 +45,7 @@ pub struct QuickEnd {
     pub history: History,
     /// How the command ended.
     pub end: EndKind,
+    ghost status_of_end: { status ≡ status_of end },
 }
 
 /// The exit status of an end.
@@ -78,6 +79,7 @@ pub fn fault_text(refusal: Refusal) -> &'static str
     }
 }
 
+/// The name of a kind of fault.
 fn kind_text(kind: HexKind) -> &'static str
     ensures { result.now ≡ kind_text kind }
 {
@@ -97,7 +99,7 @@ fn kind_text(kind: HexKind) -> &'static str
 ///
 /// # Errors
 ///
-/// Want of memory alone.
+/// Out of memory alone.
 pub fn hex_text(alloc: Global, fault: HexFault) -> Result<String, AllocError>
     ensures { IfOk result (λ t. string_bytes t ≡ hex_text fault) }
 {

@@ -10,7 +10,7 @@ ghost use Rattle.ihex.specs.Text.{fault_in};
 ghost use Rattle.wz_board.specs.Words.{asked, command_of};
 ghost use Rattle.wz_board.specs.Script.{lists, script_lines};
 ghost use Rattle.wz_board.specs.Run.{Run};
-ghost use Rattle.wz_board.specs.Outcome.{refusal_of, refused, lines_outcome, listed_outcome, text_outcome, end_of, IsOwn, Shows, Reports};
+ghost use Rattle.wz_board.specs.Outcome.{refusal_of, refused, lines_outcome, listed_outcome, text_outcome, end_of, IsOwn, Ran, Shows, Reports};
 
 use crate::end::{EndKind, QuickEnd, Refusal, fault_text, hex_text, status_of};
 use crate::history::History;
@@ -34,7 +34,6 @@ pub const EVENT_LIMIT: u64 = 33_554_432;
 fn ended(end: EndKind, history: History) -> QuickEnd
     ensures end { result.end ≡ end }
     ensures past { result.history.past ≡ history.past }
-    ensures status { result.status ≡ status_of end }
 {
     QuickEnd {
         status: status_of(end),
@@ -48,7 +47,6 @@ fn refuse<K: Sink>(refusal: Refusal, history: History, out: &mut K) -> QuickEnd
     requires { IsPlain refusal }
     ensures shows { Shows (record { end = EndKind.Refused refusal; past = history.past; text = fault_text refusal }) result.end result.history.past (K.written out.old) (K.written out.new) }
     ensures past { result.history.past ≡ history.past }
-    ensures status { result.status ≡ status_of result.end }
     ensures ends { (result.end ≡ EndKind.Refused refusal) ⊎ (result.end ≡ EndKind.WriteFault) }
     ensures faults { RisesOnly (result.end ≡ EndKind.WriteFault) (K.faults out.old) (K.faults out.new) }
 {
@@ -74,7 +72,6 @@ fn stop_run<K: Sink>(stop: Unbuilt, history: History, out: &mut K) -> QuickEnd
     ensures shows { (run : Run) (old : Option (List ℕ)) → run.stop ≡ Some stop → history.past ≡ run.past → Appends old run.text (K.written out.old)
         → Shows (end_of run run.stop) result.end result.history.past old (K.written out.new) }
     ensures past { result.history.past ≡ history.past }
-    ensures status { result.status ≡ status_of result.end }
     ensures ends { IsOwn result.end }
     ensures faults { RisesOnly (result.end ≡ EndKind.WriteFault) (K.faults out.old) (K.faults out.new) }
 {
@@ -83,11 +80,7 @@ fn stop_run<K: Sink>(stop: Unbuilt, history: History, out: &mut K) -> QuickEnd
 
 // Runs the lines of a script.
 fn run_script<K: Sink>(alloc: Global, lines: &[Vec<BusEvent>], out: &mut K) -> QuickEnd
-    ensures shows { Shows (lines_outcome (Some (lists lines.now))) result.end result.history.past (K.written out.old) (K.written out.new) }
-    ensures legal { BuiltLegal result.history.past }
-    ensures status { result.status ≡ status_of result.end }
-    ensures ends { IsOwn result.end }
-    ensures faults { RisesOnly (result.end ≡ EndKind.WriteFault) (K.faults out.old) (K.faults out.new) }
+    ensures { Ran (lines_outcome (Some (lists lines.now))) result (K.written out.old) (K.written out.new) (K.faults out.old) (K.faults out.new) }
 {
     let mut session = Session::new(alloc, EVENT_LIMIT);
     let ran = run_lines(alloc, &mut session, lines, out);
@@ -102,11 +95,7 @@ fn run_script<K: Sink>(alloc: Global, lines: &[Vec<BusEvent>], out: &mut K) -> Q
 
 // Runs the text of a script.
 fn run_text<K: Sink>(alloc: Global, text: &[u8], out: &mut K) -> QuickEnd
-    ensures shows { Shows (lines_outcome (script_lines text.now)) result.end result.history.past (K.written out.old) (K.written out.new) }
-    ensures legal { BuiltLegal result.history.past }
-    ensures status { result.status ≡ status_of result.end }
-    ensures ends { IsOwn result.end }
-    ensures faults { RisesOnly (result.end ≡ EndKind.WriteFault) (K.faults out.old) (K.faults out.new) }
+    ensures { Ran (lines_outcome (script_lines text.now)) result (K.written out.old) (K.written out.new) (K.faults out.old) (K.faults out.new) }
 {
     match script_lines(alloc, text) {
         Ok(lines) => run_script(alloc, &lines, out),
@@ -119,11 +108,7 @@ fn run_text<K: Sink>(alloc: Global, text: &[u8], out: &mut K) -> QuickEnd
 
 // Writes the line of a text's fault, and ends.
 fn refuse_image<K: Sink>(alloc: Global, fault: HexFault, out: &mut K) -> QuickEnd
-    ensures shows { Shows (refused (Refusal.Hex fault)) result.end result.history.past (K.written out.old) (K.written out.new) }
-    ensures past { result.history.past ≡ [] }
-    ensures status { result.status ≡ status_of result.end }
-    ensures ends { IsOwn result.end }
-    ensures faults { RisesOnly (result.end ≡ EndKind.WriteFault) (K.faults out.old) (K.faults out.new) }
+    ensures { Ran (refused (Refusal.Hex fault)) result (K.written out.old) (K.written out.new) (K.faults out.old) (K.faults out.new) }
 {
     let none = History::new(alloc, EVENT_LIMIT);
     match hex_text(alloc, fault) {
@@ -137,12 +122,8 @@ fn refuse_image<K: Sink>(alloc: Global, fault: HexFault, out: &mut K) -> QuickEn
 
 // Lists the image of an Intel HEX text.
 fn list_text<K: Sink>(alloc: Global, text: &[u8], out: &mut K) -> QuickEnd
-    requires { length text.now ≤ 67108864 }
-    ensures shows { Shows (listed_outcome text.now (fault_in text.now)) result.end result.history.past (K.written out.old) (K.written out.new) }
-    ensures past { result.history.past ≡ [] }
-    ensures status { result.status ≡ status_of result.end }
-    ensures ends { IsOwn result.end }
-    ensures faults { RisesOnly (result.end ≡ EndKind.WriteFault) (K.faults out.old) (K.faults out.new) }
+    requires { length text.now ≤ TEXT_LIMIT }
+    ensures { Ran (listed_outcome text.now (fault_in text.now)) result (K.written out.old) (K.written out.new) (K.faults out.old) (K.faults out.new) }
 {
     let none = History::new(alloc, EVENT_LIMIT);
     match load(alloc, text) {
@@ -157,12 +138,8 @@ fn list_text<K: Sink>(alloc: Global, text: &[u8], out: &mut K) -> QuickEnd
 
 // Does what a command asks with the text of its operand.
 fn on_text<K: Sink>(alloc: Global, command: &Command<'_>, text: &[u8], out: &mut K) -> QuickEnd
-    requires { length text.now ≤ 67108864 }
-    ensures shows { Shows (text_outcome (asked command.now) text.now) result.end result.history.past (K.written out.old) (K.written out.new) }
-    ensures legal { BuiltLegal result.history.past }
-    ensures status { result.status ≡ status_of result.end }
-    ensures ends { IsOwn result.end }
-    ensures faults { RisesOnly (result.end ≡ EndKind.WriteFault) (K.faults out.old) (K.faults out.new) }
+    requires { length text.now ≤ TEXT_LIMIT }
+    ensures { Ran (text_outcome (asked command.now) text.now) result (K.written out.old) (K.written out.new) (K.faults out.old) (K.faults out.new) }
 {
     match command {
         Command::Bus { .. } => run_text(alloc, text, out),
@@ -177,9 +154,8 @@ fn run_command<F: Files, K: Sink>(
     files: &mut F,
     out: &mut K,
 ) -> QuickEnd
-    ensures reports { Reports (F.held files.old) (Some (asked command.now)) result.end result.history.past (K.written out.old) (K.written out.new) }
+    ensures reports { Reports (F.held files.old) (F.misses files.old) (F.misses files.new) (F.faults files.old) (F.faults files.new) (Some (asked command.now)) result.end result.history.past (K.written out.old) (K.written out.new) }
     ensures legal { BuiltLegal result.history.past }
-    ensures status { result.status ≡ status_of result.end }
     ensures usage { result.end ≢ EndKind.Refused Refusal.Usage }
     ensures misses { (result.end ≡ EndKind.Refused Refusal.NoFile) → Rose (F.misses files.old) (F.misses files.new) }
     ensures read_faults { (result.end ≡ EndKind.Refused Refusal.ReadFault) → Rose (F.faults files.old) (F.faults files.new) }
@@ -210,7 +186,7 @@ pub fn quick<F: Files, K: Sink>(
     out: &mut K,
 ) -> Option<QuickEnd>
     ensures answers { IsSome result }
-    ensures reports { IfSome result (λ r. Reports (F.held files.old) (command_of (map string_bytes words.now)) r.end r.history.past (K.written out.old) (K.written out.new)) }
+    ensures reports { IfSome result (λ r. Reports (F.held files.old) (F.misses files.old) (F.misses files.new) (F.faults files.old) (F.faults files.new) (command_of (map string_bytes words.now)) r.end r.history.past (K.written out.old) (K.written out.new)) }
     ensures built { IfSome result (λ r. BuiltLegal r.history.past) }
     ensures legal { IfSome result (λ r. (starts : Starts) → Legal starts r.history.past) }
     ensures status { IfSome result (λ r. r.status ≡ status_of r.end) }
@@ -220,7 +196,7 @@ pub fn quick<F: Files, K: Sink>(
     ensures no_form { IfSome result (λ r. command_of (map string_bytes words.now) ≡ None → (r.end ≡ EndKind.Refused Refusal.Usage) ⊎ (r.end ≡ EndKind.WriteFault)) }
     ensures misses { IfSome result (λ r. r.end ≡ EndKind.Refused Refusal.NoFile → Rose (F.misses files.old) (F.misses files.new)) }
     ensures read_faults { IfSome result (λ r. r.end ≡ EndKind.Refused Refusal.ReadFault → Rose (F.faults files.old) (F.faults files.new)) }
-    ensures write_faults { IfSome result (λ r. r.end ≡ EndKind.WriteFault → Rose (K.faults out.old) (K.faults out.new)) }
+    ensures write_faults { IfSome result (λ r. RisesOnly (r.end ≡ EndKind.WriteFault) (K.faults out.old) (K.faults out.new)) }
 {
     Some(match command_of(words) {
         None => refuse(Refusal::Usage, History::new(alloc, EVENT_LIMIT), out),
