@@ -1,6 +1,7 @@
 // The common registers (W5500 datasheet, 3.1 and 4.1).
 ghost use Rattle.std.specs.Prelude.{◌≡◌, ◌∷◌, [], ◌<◌, IsSome};
-ghost use Rattle.chip_sheet.specs.Past.{Past, Bus};
+ghost use Rattle.chip_sheet.specs.declared.event.Entry.TheVariants.{Bus};
+ghost use Rattle.chip_sheet.specs.Past.{Past};
 ghost use Rattle.chip_sheet.specs.Frames.{access};
 ghost use Rattle.chip_sheet.specs.CommonBlock.{common_place};
 ghost use Rattle.chip_sheet.specs.Registers.{common_register};

@@ -1,6 +1,7 @@
 // One byte exchanged with the common register block.
 ghost use Rattle.std.specs.Prelude.{◌≡◌, ◌∷◌, None};
-ghost use Rattle.chip_sheet.specs.Past.{Past, Bus};
+ghost use Rattle.chip_sheet.specs.declared.event.Entry.TheVariants.{Bus};
+ghost use Rattle.chip_sheet.specs.Past.{Past};
 ghost use Rattle.chip_sheet.specs.Frames.{access, access_in};
 ghost use Rattle.chip_sheet.specs.Answers.{idle_byte};
 ghost use Rattle.chip_sheet.specs.BuiltAnswers.{built_byte};

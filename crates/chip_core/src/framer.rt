@@ -1,6 +1,7 @@
 // Frames, one byte at a time (W5500 datasheet, 2.2 SPI frame).
 ghost use Rattle.std.specs.Prelude.{◌≡◌, [], ◌∷◌};
-ghost use Rattle.chip_sheet.specs.Past.{Past, Bus};
+ghost use Rattle.chip_sheet.specs.declared.event.Entry.TheVariants.{Bus};
+ghost use Rattle.chip_sheet.specs.Past.{Past};
 ghost use Rattle.chip_sheet.specs.Frames.{phase, data_length, is_low};
 ghost use Rattle.board_bus.specs.declared.event.BusAnswer.{BusAnswer};
 ghost use Rattle.board_bus.specs.declared.event.BusEvent.TheVariants.{Select, Byte};

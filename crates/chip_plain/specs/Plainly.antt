@@ -3,7 +3,7 @@ use Rattle.std.specs.Prelude.{◌≡◌, ◌⊎◌, Some, None, ◌∷◌}
 use Rattle.board_bus.specs.declared.event.BusEvent.{BusEvent}
 use Rattle.board_bus.specs.declared.event.BusAnswer.{BusAnswer}
 use Rattle.chip_sheet.specs.declared.stop.ChipStop.{ChipStop}
-use Rattle.chip_sheet.specs.Past.{Bus}
+use Rattle.chip_sheet.specs.declared.event.Entry.TheVariants.{Bus}
 use Rattle.chip_sheet.specs.Answers.{answer}
 use Rattle.chip_sheet.specs.Stops.{stop}
 use Rattle.chip_plain.specs.History.{History}

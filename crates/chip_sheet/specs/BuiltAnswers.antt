@@ -6,7 +6,8 @@ use Rattle.board_bus.specs.declared.event.BusAnswer.{BusAnswer}
 use Rattle.board_bus.specs.declared.event.BusAnswer.TheVariants.{Done, Out, Level}
 use Rattle.chip_sheet.specs.declared.phase.Access.{Access}
 use Rattle.chip_sheet.specs.declared.phase.Access.TheVariants.{NoAccess, Read, Write}
-use Rattle.chip_sheet.specs.Past.{Past, Bus}
+use Rattle.chip_sheet.specs.declared.event.Entry.TheVariants.{Bus}
+use Rattle.chip_sheet.specs.Past.{Past}
 use Rattle.chip_sheet.specs.Frames.{access}
 use Rattle.chip_sheet.specs.Registers.{common_register}
 use Rattle.chip_sheet.specs.Answers.{idle_byte}

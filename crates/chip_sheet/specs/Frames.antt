@@ -8,7 +8,9 @@ use Rattle.chip_sheet.specs.declared.phase.Access.{Access}
 use Rattle.chip_sheet.specs.declared.phase.Access.TheVariants.{NoAccess, Read, Write}
 use Rattle.chip_sheet.specs.declared.phase.Phase.{Phase}
 use Rattle.chip_sheet.specs.declared.phase.Phase.TheVariants.{Idle, Address, Control, Body}
-use Rattle.chip_sheet.specs.Past.{Past, Entry, Bus, Link, Rest}
+use Rattle.chip_sheet.specs.declared.event.Entry.{Entry}
+use Rattle.chip_sheet.specs.declared.event.Entry.TheVariants.{Bus, Link, Rest}
+use Rattle.chip_sheet.specs.Past.{Past}
 
 -- The select line is low exactly where the last change of it says so. It starts high.
 abbrev pub is_low : Past → Bool

@@ -6,14 +6,15 @@ use Rattle.chip_sheet.specs.declared.phase.Access.TheVariants.{NoAccess, Read, W
 use Rattle.chip_sheet.specs.declared.block.Block.{Block}
 use Rattle.chip_sheet.specs.declared.block.Block.TheVariants.{Registers}
 use Rattle.chip_sheet.specs.Past.{Past}
+use Rattle.chip_sheet.specs.Names.{sn_rxbuf_size, sn_txbuf_size}
 use Rattle.chip_sheet.specs.Blocks.{sockets, registers_of, block_of}
 use Rattle.chip_sheet.specs.Registers.{last_written}
 
 abbrev pub rx_sizes : ℕ
-rx_sizes = 0x1E
+rx_sizes = sn_rxbuf_size
 
 abbrev pub tx_sizes : ℕ
-tx_sizes = 0x1F
+tx_sizes = sn_txbuf_size
 
 -- What the size register of socket n holds, in kilobytes: 2 after a reset.
 abbrev pub kilobytes : Past → ℕ → ℕ → ℕ

@@ -20,6 +20,7 @@ returns-clause-answered c = λ past stands.
       allowed = free;
       is = ap Out out;
       stands = record {
+        legal = ((free, ap Out out), stands.legal);
         framer = c.byte.ensures.after past answer stands.framer;
         registers = c.exchange-out.ensures.after past (Byte v) answer (sym is) stands.registers;
       };
