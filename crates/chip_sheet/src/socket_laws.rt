@@ -1,4 +1,4 @@
-// Laws of the sockets' definitions, each the contract of an empty function.
+//! Laws of the sockets' definitions, each the contract of an empty function.
 ghost use Rattle.std.specs.Prelude.{◌≡◌, ◌≤◌, ◌<◌, ◌↔◌, ℕ, ◌+◌, ◌*◌, ◌%◌, List, ◌∷◌, ◌++◌, length, slice_get, slice_index, Some, true, false};
 ghost use Rattle.std.specs.Option.{IsSome};
 ghost use Rattle.board_bus.specs.declared.event.BusEvent.TheVariants.{Byte};
@@ -18,12 +18,6 @@ ghost use Rattle.chip_sheet.specs.Windows.{flight, unread, rx_byte, in_flight_at
 ghost use Rattle.chip_sheet.specs.Answers.{answer};
 ghost use Rattle.chip_sheet.specs.Legal.{Legal};
 ghost use Rattle.chip_sheet.specs.Replay.{Step, Happens, AllTaken, told};
-
-/// A byte that makes no access is answered FF while the select line is high, and 00 while it is low.
-pub fn idle_answer()
-    ensures high { (starts : Starts) (past : Past) (v : ℕ) → access past (Byte v) ≡ NoAccess → is_low past ≡ false → answer starts past (Byte v) ≡ Out 0xFF }
-    ensures low { (starts : Starts) (past : Past) (v : ℕ) → access past (Byte v) ≡ NoAccess → is_low past ≡ true → answer starts past (Byte v) ≡ Out 0x00 }
-{}
 
 /// What was sent in a life of a socket stays: at each later moment it is a front of what is sent then.
 pub fn sent_stays()
@@ -59,20 +53,6 @@ pub fn reset_empties()
 /// A position and the pointer that shows it, modulo 65,536, name the same place of a buffer of any size that there is.
 pub fn same_place()
     ensures { (kilobytes at : ℕ) → is_size kilobytes ≡ true → 0 < kilobytes → at % 65536 % (kilobytes * 1024) ≡ at % (kilobytes * 1024) }
-{}
-
-/// What the first steps of a script are told stays, whatever comes behind them: where all of them were taken, the whole script is
-/// told what they are, and then what the others are from there on. What had happened before a script stays behind what it adds.
-pub fn answers_stay()
-    ensures answers { (starts : Starts) (past : Past) (xs ys : List Step) → (told starts past xs).ending ≡ AllTaken → (told starts past (xs ++ ys)).answers ≡ (told starts past xs).answers ++ (told starts (told starts past xs).past ys).answers }
-    ensures goes_on { (starts : Starts) (past : Past) (xs ys : List Step) → (told starts past xs).ending ≡ AllTaken → (told starts past (xs ++ ys)).past ≡ (told starts (told starts past xs).past ys).past }
-    ensures ends { (starts : Starts) (past : Past) (xs ys : List Step) → (told starts past xs).ending ≡ AllTaken → (told starts past (xs ++ ys)).ending ≡ (told starts (told starts past xs).past ys).ending }
-    ensures keeps { (starts : Starts) (past : Past) (xs : List Step) → GoesOn past (told starts past xs).past }
-{}
-
-/// Steps that follow a legal history make a legal one, where their link events are of the eight sockets.
-pub fn told_is_legal()
-    ensures { (starts : Starts) (past : Past) (xs : List Step) → Legal starts past → ((i n : ℕ) (what : LinkEntry) → slice_get xs i ≡ Some (Happens n what) → n < 8) → Legal starts (told starts past xs).past }
 {}
 
 /// A byte in flight stands at the place of an address exactly where the buffer has a size and the position of some byte in flight

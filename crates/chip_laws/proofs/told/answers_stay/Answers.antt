@@ -1,5 +1,5 @@
-use Rattle.chip_sheet.proofs.ToldLaws.{told_joined, told_goes_on}
-use Rattle.chip_sheet.proofs.socket_laws.answers_stay.Goals as goal
+use Rattle.chip_laws.proofs.ToldLaws.{told_joined, told_goes_on}
+use Rattle.chip_laws.proofs.told.answers_stay.Goals as goal
 
 pub returns : goal.returns
 returns c = record {
