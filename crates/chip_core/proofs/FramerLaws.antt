@@ -5,8 +5,8 @@ use Rattle.std.proofs.Math.Nat.{sub-zero}
 use Rattle.std.proofs.lemmas.List.{length-append}
 use Rattle.std.proofs.lemmas.Bool.{false≢true}
 use Rattle.std.proofs.lemmas.Bool.Decides.{nat_tests}
-use Rattle.chip_sheet.specs.declared.event.BusAnswer.{BusAnswer}
-use Rattle.chip_sheet.specs.declared.event.BusEvent.TheVariants.{Select, Byte}
+use Rattle.board_bus.specs.declared.event.BusAnswer.{BusAnswer}
+use Rattle.board_bus.specs.declared.event.BusEvent.TheVariants.{Select, Byte}
 use Rattle.chip_sheet.specs.Past.{Past, Bus}
 use Rattle.chip_sheet.specs.Frames.{is_low, bytes_in, current, has_ended, data_length}
 use Rattle.chip_sheet.proofs.FrameLaws.{next_frame, current-push, current-open, current-empty}

@@ -1,7 +1,7 @@
 ghost use Rattle.std.specs.Prelude.{◌≡◌, [], ◌∷◌, None, IfOk, IfErr};
 ghost use Rattle.chip_sheet.specs.Past.{Past};
 ghost use Rattle.chip_sheet.specs.Answers.{idle_byte};
-ghost use Rattle.chip_sheet.specs.declared.event.BusEvent.TheVariants.{Byte};
+ghost use Rattle.board_bus.specs.declared.event.BusEvent.TheVariants.{Byte};
 
 use crate::common_regs::CommonRegs;
 use crate::exchange::{access_in, exchange, unbuilt_of};

@@ -4,8 +4,8 @@ ghost use Rattle.chip_sheet.specs.Past.{Past, Bus};
 ghost use Rattle.chip_sheet.specs.Frames.{access};
 ghost use Rattle.chip_sheet.specs.CommonBlock.{common_place};
 ghost use Rattle.chip_sheet.specs.Registers.{common_register};
-ghost use Rattle.chip_sheet.specs.declared.event.BusAnswer.{BusAnswer};
-ghost use Rattle.chip_sheet.specs.declared.event.BusEvent.{BusEvent};
+ghost use Rattle.board_bus.specs.declared.event.BusAnswer.{BusAnswer};
+ghost use Rattle.board_bus.specs.declared.event.BusEvent.{BusEvent};
 ghost use Rattle.chip_sheet.specs.declared.phase.Access.TheVariants.{Write};
 ghost use Rattle.chip_core.specs.CommonRegs.{is_stored, kept_of};
 

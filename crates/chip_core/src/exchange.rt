@@ -5,8 +5,8 @@ ghost use Rattle.chip_sheet.specs.Frames.{access, access_in};
 ghost use Rattle.chip_sheet.specs.Answers.{idle_byte};
 ghost use Rattle.chip_sheet.specs.BuiltAnswers.{built_byte};
 ghost use Rattle.chip_sheet.specs.BuiltStops.{unbuilt_of};
-ghost use Rattle.chip_sheet.specs.declared.event.BusAnswer.{BusAnswer};
-ghost use Rattle.chip_sheet.specs.declared.event.BusEvent.{BusEvent};
+ghost use Rattle.board_bus.specs.declared.event.BusAnswer.{BusAnswer};
+ghost use Rattle.board_bus.specs.declared.event.BusEvent.{BusEvent};
 ghost use Rattle.chip_core.specs.CommonRegs.{Holds};
 
 use crate::common_regs::CommonRegs;

@@ -2,8 +2,8 @@
 ghost use Rattle.std.specs.Prelude.{◌≡◌, [], ◌∷◌};
 ghost use Rattle.chip_sheet.specs.Past.{Past, Bus};
 ghost use Rattle.chip_sheet.specs.Frames.{phase, data_length, is_low};
-ghost use Rattle.chip_sheet.specs.declared.event.BusAnswer.{BusAnswer};
-ghost use Rattle.chip_sheet.specs.declared.event.BusEvent.TheVariants.{Select, Byte};
+ghost use Rattle.board_bus.specs.declared.event.BusAnswer.{BusAnswer};
+ghost use Rattle.board_bus.specs.declared.event.BusEvent.TheVariants.{Select, Byte};
 ghost use Rattle.chip_core.specs.Framer.{framer_of, frame_after, phase_at};
 
 use chip_sheet::phase::Phase;

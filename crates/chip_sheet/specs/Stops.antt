@@ -1,6 +1,6 @@
 -- Where the board stops in place of an answer (this profile's own).
 use Rattle.std.specs.Prelude.{ℕ, ◌%◌, ◌/◌, Bool, true, false, not, ◌==◌, ◌&&◌, ◌||◌, nat_lt, List, [], ◌∷◌, length, Option, Some, None}
-use Rattle.chip_sheet.specs.declared.event.BusEvent.{BusEvent}
+use Rattle.board_bus.specs.declared.event.BusEvent.{BusEvent}
 use Rattle.chip_sheet.specs.declared.stop.ChipStop.{ChipStop}
 use Rattle.chip_sheet.specs.declared.stop.ChipStop.TheVariants.{ReservedBlock, Pppoe, SizeWhileOpen, OverwriteInFlight, SendMac, RawEthernet, BadBufferSize, SendTooLong, RecvPastEnd}
 use Rattle.chip_sheet.specs.declared.phase.Access.{Access}

@@ -1,8 +1,8 @@
 // Laws of the sockets' definitions, each the contract of an empty function.
 ghost use Rattle.std.specs.Prelude.{◌≡◌, ◌≤◌, ◌<◌, ◌↔◌, ℕ, ◌+◌, ◌*◌, ◌%◌, List, ◌∷◌, ◌++◌, length, slice_get, slice_index, Some, true, false};
 ghost use Rattle.std.specs.Option.{IsSome};
-ghost use Rattle.chip_sheet.specs.declared.event.BusEvent.TheVariants.{Byte};
-ghost use Rattle.chip_sheet.specs.declared.event.BusAnswer.TheVariants.{Out};
+ghost use Rattle.board_bus.specs.declared.event.BusEvent.TheVariants.{Byte};
+ghost use Rattle.board_bus.specs.declared.event.BusAnswer.TheVariants.{Out};
 ghost use Rattle.chip_sheet.specs.declared.phase.Access.TheVariants.{NoAccess};
 ghost use Rattle.chip_sheet.specs.declared.socket.Status.TheVariants.{Closed};
 ghost use Rattle.chip_sheet.specs.declared.socket.Cause.TheVariants.{Send};

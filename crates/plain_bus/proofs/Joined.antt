@@ -1,6 +1,6 @@
 -- Steps told line by line are told as one list.
 use Rattle.std.proofs.Common.{arith, ◌≡◌, ℕ, ◌+◌, suc, Bool, true, false, List, [], ◌∷◌, ◌++◌, length, Option, None, Some, refl, sym, ap, subst, append-nil, ◌∙◌}
-use Rattle.chip_sheet.specs.declared.event.BusAnswer.{BusAnswer}
+use Rattle.board_bus.specs.declared.event.BusAnswer.{BusAnswer}
 use Rattle.chip_sheet.specs.declared.stop.ChipStop.{ChipStop}
 use Rattle.chip_sheet.specs.Past.{Past, Link}
 use Rattle.chip_sheet.specs.Streams.{Starts}

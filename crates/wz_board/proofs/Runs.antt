@@ -5,8 +5,8 @@ use Rattle.std.specs.Prelude.{Vec}
 use Rattle.std.specs.declared.alloc.Global.{Global}
 use Rattle.wz_board.specs.Script.{lists}
 use Rattle.std.proofs.Common.{arith, add-one, take, ◌+◌, ◌≤◌, ◌≡◌, ℕ, suc, ◌<◌, length, get_or, drop, drop-cons, append-nil, List, [], ◌∷◌, ◌++◌, Option, None, Some, Ok, Err, refl, ap, sym, ◌∙◌, append_assoc}
-use Rattle.chip_sheet.specs.declared.event.BusEvent.{BusEvent}
-use Rattle.chip_sheet.specs.declared.event.BusAnswer.{BusAnswer}
+use Rattle.board_bus.specs.declared.event.BusEvent.{BusEvent}
+use Rattle.board_bus.specs.declared.event.BusAnswer.{BusAnswer}
 use Rattle.chip_sheet.specs.declared.stop.Unbuilt.{Unbuilt}
 use Rattle.chip_sheet.specs.Past.{Past, Bus, GoesOn}
 use Rattle.chip_sheet.specs.BuiltAnswers.{built_answer}

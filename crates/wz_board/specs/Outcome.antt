@@ -1,6 +1,6 @@
 -- What a command comes to.
 use Rattle.std.specs.Prelude.{◌≡◌, ◌<◌, ◌≤◌, ℕ, List, [], ◌++◌, length, Option, None, Some, IfSome, IsSomeAnd}
-use Rattle.chip_sheet.specs.declared.event.BusEvent.{BusEvent}
+use Rattle.board_bus.specs.declared.event.BusEvent.{BusEvent}
 use Rattle.chip_sheet.specs.declared.stop.Unbuilt.{Unbuilt}
 use Rattle.chip_sheet.specs.declared.stop.Unbuilt.TheVariants as stops
 use Rattle.chip_sheet.specs.Past.{Past, GoesOn}
