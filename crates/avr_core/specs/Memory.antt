@@ -1,11 +1,15 @@
 -- A step over the bytes of the data space alone.
-use Rattle.std.specs.Prelude.{◌≡◌, ℕ, List, Option, Some, None, Ok, Err, if◌then◌else◌, slice_index, slice_set}
+use Rattle.std.specs.Prelude.{◌≡◌, ℕ, List, Option, Some, None, Ok, Err, if◌then◌else◌, slice_index, slice_set, replicate}
 use Rattle.avr_core.specs.Ask.{Give, Call}
 use Rattle.avr_core.specs.Calls.{DataCall, Read, Write, WriteBit, AnswerTo}
 use Rattle.avr_core.specs.Stack.{is_sram}
 use Rattle.avr_core.specs.Steps.{Asked, Stepped, ran}
 use Rattle.avr_core.specs.declared.bus.DataEnd.TheVariants as ends
 use Rattle.avr_core.specs.declared.cpu.Core.{Core}
+
+-- So many bytes of 00.
+unfoldable pub zeros : ℕ → List ℕ
+zeros n = replicate n 0
 
 -- What the memory answers, as a data bus, and what it holds then: a byte of SRAM is read and written, and any other place is not
 -- its own, for which it says that the bus is over.

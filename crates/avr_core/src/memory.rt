@@ -1,6 +1,6 @@
 //! The bytes of the data space.
-ghost use Rattle.std.specs.Prelude.{◌≡◌, ◌<◌, slice_index, slice_set, replicate};
-ghost use Rattle.avr_core.specs.Memory.{Held};
+ghost use Rattle.std.specs.Prelude.{◌≡◌, ◌<◌, slice_index, slice_set};
+ghost use Rattle.avr_core.specs.Memory.{zeros};
 
 use crate::bus::{DataBus, DataEnd};
 use crate::stack::is_sram;
@@ -25,8 +25,9 @@ impl Model for Memory {
 
 impl Memory {
     /// All bytes are 00.
+    #[tactic(auto, unfolding(crate::specs::Memory::zeros))]
     pub fn new() -> Self
-        ensures { result ≡ replicate 2304 0 }
+        ensures { result ≡ zeros 2304 }
     {
         Memory {
             bytes: [0; SIZE as usize],

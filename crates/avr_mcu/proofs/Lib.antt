@@ -1,7 +1,3 @@
-pub mod Owners
-pub mod Through
-pub mod Trees
-pub mod DeviceCalls
 pub mod Steps
 pub mod Runs
 pub mod Timing

@@ -1,8 +1,3 @@
-pub mod Peer
-pub mod Registers
-pub mod Owners
-pub mod Devices
-pub mod Through
 pub mod State
 pub mod Step
 pub mod Answers

@@ -4,28 +4,16 @@ ghost use Rattle.avr_core.specs.Ask.{Plays};
 ghost use Rattle.avr_mcu.specs.Settled.{IsKept, IsTimed};
 ghost use Rattle.avr_mcu.specs.Step.{counting, entered, entry, finished, gone, instruction, looking, owes, passing, request, sleeping, stepped};
 
-use crate::bits::is_set;
-use crate::devices::Devices;
-use crate::peer::BusPeer;
-use crate::run_core::{run_entry, run_instruction};
 use crate::trail::Trail;
 use crate::went::McuWent;
-use avr_core::{Core, Went};
-use ihex::{Image, NoMemory};
-use std::alloc::Global;
+use avr_core::{Code, Core, Went};
+use avr_space::{BusPeer, Devices, is_set, run_entry, run_instruction};
+use ihex::Image;
+use std::alloc::{AllocError, Global};
 use std::marker::Model;
 
 /// Data address of SMCR, whose bit 0 enables sleeping.
 const SMCR: u16 = 0x53;
-
-/// The opcode of SEI, which is BSET 7.
-const SEI: u16 = 0x9478;
-
-/// The opcode of RETI.
-const RETI: u16 = 0x9518;
-
-/// Words of flash.
-const WORDS: u16 = 0x4000;
 
 /// INTn is looked at after so many instructions and cycles asleep.
 const LOOK_PERIOD: u8 = 64;
@@ -33,7 +21,7 @@ const LOOK_PERIOD: u8 = 64;
 /// An ATmega328P with its firmware.
 #[derive(Drop)]
 pub struct Mcu {
-    image: Image,
+    code: Code,
     core: Core,
     devices: Devices,
     asleep: bool,
@@ -48,7 +36,7 @@ impl Model for Mcu {
 
     ghost Value = { McuState };
 
-    ghost view = { λ m. record { flash = m.image; core = m.core; devices = m.devices; asleep = m.asleep; owed = m.owed; counted = m.counted; trail = m.trail } };
+    ghost view = { λ m. record { flash = m.code; core = m.core; devices = m.devices; asleep = m.asleep; owed = m.owed; counted = m.counted; trail = m.trail } };
 
     ghost invariant = { λ m. m.counted < 64 };
 }
@@ -57,13 +45,13 @@ impl Mcu {
     ghost use Rattle.avr_mcu.specs.State.{printed, reset_state, taken};
 
     /// The part after reset, with this flash. The error says that no memory was left.
-    pub fn new(alloc: Global, image: Image) -> Result<Mcu, NoMemory>
+    pub fn new(alloc: Global, image: Image) -> Result<Mcu, AllocError>
         ensures { IfOk result (λ mcu. mcu ≡ reset_state image) }
     {
         Ok(Mcu {
-            image,
+            code: Code::new(alloc, image)?,
             core: Core::new(),
-            devices: Devices::new(alloc)?,
+            devices: Devices::new(),
             asleep: false,
             owed: false,
             counted: 0,
@@ -79,6 +67,7 @@ impl Mcu {
     /// but that the trail has the instruction. `cycles()` is below 2^63 when a step is begun.
     pub fn step<B: BusPeer>(&mut self, peer: &mut B) -> McuWent
         requires { self.old.devices.cycles < 2 ^ 63 }
+        ensures rises { self.new.devices.cycles ≤ self.old.devices.cycles + 4 }
         ensures cycles { IsTimed result self.old.devices.cycles self.new.devices.cycles }
         ensures kept { IsKept result self.old self.new }
         ensures plays { Plays B.did peer.old (stepped self.old) (gone result self.new) peer.new }
@@ -149,7 +138,7 @@ impl Mcu {
     {
         let owed = self.owes();
         self.trail.note(self.core.pc());
-        let went = run_instruction(&mut self.core, &self.image, &mut self.devices, peer);
+        let went = run_instruction(&mut self.core, &self.code, &mut self.devices, peer);
         self.finish(owed, went, peer)
     }
 
@@ -158,8 +147,7 @@ impl Mcu {
     fn owes(&self) -> bool
         ensures { result ≡ owes self.now.flash self.now.core }
     {
-        let word = self.image.word(self.core.pc() % WORDS);
-        word == SEI || word == RETI
+        self.core.owes(&self.code)
     }
 
     /// What follows once the core has gone so.
@@ -226,7 +214,7 @@ impl Mcu {
         requires { self.old.devices.cycles < 2 ^ 63 }
         ensures { gone result self.new ≡ passing went cycles self.old }
     {
-        self.devices.pass(cycles);
+        self.devices.pass(u64::from(cycles));
         went
     }
 

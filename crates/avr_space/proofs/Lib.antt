@@ -1,0 +1,5 @@
+pub mod Owners
+pub mod Trees
+pub mod Through
+pub mod DeviceCalls
+pub mod Drives

@@ -1,0 +1,5 @@
+pub mod Peer
+pub mod Owners
+pub mod Registers
+pub mod Devices
+pub mod Through
