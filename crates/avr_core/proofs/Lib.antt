@@ -1,4 +1,3 @@
-pub mod BitTables
 pub mod Trees
 pub mod Shaped
 pub mod Uses

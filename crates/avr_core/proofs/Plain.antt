@@ -25,7 +25,7 @@ use Rattle.avr_core.specs.declared.op.Op.TheVariants as ops
 use Rattle.avr_core.specs.declared.went.Went.{Went}
 use Rattle.avr_core.specs.declared.went.Went.TheVariants as wents
 use Rattle.avr_table.specs.WellFormed.{IsWellFormed}
-use Rattle.ihex.specs.Image.{word_at}
+use Rattle.flash.specs.Image.{word_at}
 
 abbrev IsRan : Went → Type 0
 IsRan (wents.Ran cycles) = Unit {0}

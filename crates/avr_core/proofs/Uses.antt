@@ -8,7 +8,8 @@ use Rattle.avr_core.specs.Code.{said_at}
 use Rattle.avr_core.specs.Cuts.{EndsCut, by_cut, is_data_over, data_over, went_over, step_over, OverOnlyAsSaid}
 use Rattle.avr_core.specs.Meaning.{executed, meaning, interrupted}
 use Rattle.avr_core.specs.Ops.{is_resting}
-use Rattle.avr_core.specs.Registers.{with_bit, in_flash, ahead}
+use Rattle.avr_core.specs.Registers.{in_flash, ahead}
+use Rattle.avr_sheet.specs.Bits.{with_bit}
 use Rattle.avr_core.specs.Settled.{Settles}
 use Rattle.avr_core.specs.Steps.{Asked}
 use Rattle.avr_core.specs.Trees.{All}
@@ -20,7 +21,7 @@ use Rattle.avr_core.specs.declared.went.Went.{Went}
 use Rattle.avr_core.specs.declared.went.Went.TheVariants as wents
 use Rattle.avr_table.specs.Decoded.{decoded}
 use Rattle.avr_table.specs.WellFormed.{IsWellFormed}
-use Rattle.ihex.specs.Image.{word_at}
+use Rattle.flash.specs.Image.{word_at}
 
 -- A step and an interrupt entry.
 pub next-word : (pc : ℕ) → in_flash (in_flash pc + 1) ≡ in_flash (pc + 1)

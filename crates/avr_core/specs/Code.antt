@@ -6,7 +6,7 @@ use Rattle.avr_core.specs.declared.op.Op.{Op}
 use Rattle.avr_table.specs.Decoded.{decoded}
 use Rattle.avr_table.specs.declared.fault.DecodeFault.{DecodeFault}
 use Rattle.avr_table.specs.declared.instr.Instr.{Instr}
-use Rattle.ihex.specs.Image.{word_at}
+use Rattle.flash.specs.Image.{word_at}
 
 -- What stands at a word address, before the word behind it.
 unfoldable pub said_at : List ℕ → ℕ → Result Instr DecodeFault

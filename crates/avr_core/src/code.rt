@@ -6,7 +6,7 @@ ghost use Rattle.avr_core.specs.Ops.{IsOp};
 use crate::cpu::in_flash;
 use crate::op::{Op, op_of};
 use avr_table::decode;
-use ihex::Image;
+use flash::Image;
 use std::alloc::{AllocError, Global};
 use std::marker::Model;
 

@@ -5,18 +5,18 @@ ghost use Rattle.avr_core.specs.Meaning.{executed};
 ghost use Rattle.avr_core.specs.Ops.{instr_of};
 ghost use Rattle.avr_core.specs.Registers.{in_flash};
 ghost use Rattle.avr_table.specs.WellFormed.{IsWellFormed};
-ghost use Rattle.ihex.specs.Image.{word_at};
+ghost use Rattle.flash.specs.Image.{word_at};
 
 use crate::bus::DataBus;
 use crate::cpu::{Core, X, Y, Z, above, in_flash};
-use crate::masks::{is_set, with_bit};
+use avr_sheet::{is_set, with_bit};
 use crate::op::Op;
 use crate::went::{AvrStop, Went};
 use avr_alu::{
     adc, add, adiw, asr, bit_and, bit_eor, bit_or, com, dec, fmul, fmuls, fmulsu, inc, lsr, mul,
     muls, mulsu, neg, ror, sbc, sbiw, sub, swap,
 };
-use ihex::Image;
+use flash::Image;
 
 /// T and I of SREG.
 const T: u8 = 6;

@@ -13,7 +13,6 @@ mod cpu;
 mod effects;
 mod engine;
 mod jumps;
-mod masks;
 mod memory;
 mod moves;
 mod op;

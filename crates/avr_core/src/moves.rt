@@ -4,7 +4,7 @@ ghost use Rattle.std.specs.Prelude.{◌≡◌, ◌<◌};
 use crate::bus::DataBus;
 use crate::cpu::{Core, Z, above};
 use crate::went::Went;
-use ihex::Image;
+use flash::Image;
 
 impl Core {
     ghost use Rattle.avr_core.specs.Ask.{Plays};

@@ -7,8 +7,9 @@ ghost use Rattle.avr_mcu.specs.Step.{counting, entered, entry, finished, gone, i
 use crate::trail::Trail;
 use crate::went::McuWent;
 use avr_core::{Code, Core, Went};
-use avr_space::{BusPeer, Devices, is_set, run_entry, run_instruction};
-use ihex::Image;
+use avr_sheet::is_set;
+use avr_space::{BusPeer, Devices, run_entry, run_instruction};
+use flash::Image;
 use std::alloc::{AllocError, Global};
 use std::marker::Model;
 

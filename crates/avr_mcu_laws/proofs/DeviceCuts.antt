@@ -2,7 +2,7 @@
 use Rattle.std.proofs.Common.{◌≡◌, ℕ, ◌+◌, ◌^◌, ◌==◌, Bool, true, false, ◌&&◌, Option, Some, None, Result, Ok, Err, is_err, if◌then◌else◌, nat_le, nat_lt, refl, slice_index}
 use Rattle.avr_core.specs.Ask.{Give, Call}
 use Rattle.avr_core.specs.Calls.{DataCall, Read, Write, WriteBit, AnswerTo as DataAnswer}
-use Rattle.avr_core.specs.Registers.{with_bit}
+use Rattle.avr_sheet.specs.Bits.{with_bit}
 use Rattle.avr_core.specs.Steps.{Asked, Stepped}
 use Rattle.avr_core.specs.declared.bus.DataEnd.{DataEnd}
 use Rattle.avr_mcu.specs.Answers.{over}
@@ -25,7 +25,7 @@ use Rattle.avr_ports.specs.Ports.{PortsState}
 use Rattle.avr_ports.specs.Writes.{written as ports_written, written_bit as ports_written_bit}
 use Rattle.avr_serial.specs.Serial.{exchanged, write_answer}
 use Rattle.avr_serial.specs.Spi.{start_answer}
-use Rattle.avr_table.specs.declared.stop.DeviceStop.{DeviceStop}
+use Rattle.avr_sheet.specs.declared.stop.DeviceStop.{DeviceStop}
 use Rattle.avr_timer.specs.Writes.{write_outcome, answer_of}
 
 abbrev answer_over : {A : Type 0} → Handled (Result A DataEnd) → Bool

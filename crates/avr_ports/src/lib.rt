@@ -6,7 +6,6 @@
 //! (ATmega328P datasheet, "I/O-Ports" and "External Interrupts".)
 #![tactic(auto)]
 
-mod bits;
 mod external;
 mod port;
 mod ports;

@@ -2,7 +2,7 @@
 use Rattle.std.proofs.Common.{◌≡◌, ℕ, ◌+◌, ◌^◌, ◌==◌, Bool, true, false, ◌&&◌, Option, Some, None, Result, Ok, Err, if◌then◌else◌, nat_le, nat_lt, refl, ap, ◌∙◌, slice_index, is_some}
 use Rattle.avr_core.specs.Ask.{Ask, Give, Call}
 use Rattle.avr_core.specs.Calls.{DataCall, Read, Write, WriteBit, AnswerTo as DataAnswer}
-use Rattle.avr_core.specs.Registers.{with_bit}
+use Rattle.avr_sheet.specs.Bits.{with_bit}
 use Rattle.avr_core.specs.declared.bus.DataEnd.{DataEnd}
 use Rattle.avr_core.specs.declared.bus.DataEnd.TheVariants as ends
 use Rattle.avr_space.specs.Devices.{Handled, handled, Done, or_stop, or_over, with_int, with_byte, look_row, drive_row, drive_by, same, serial_row, send_row, spdr_row, timers_row, stored_by, write_io_row, write_row, read_io, read_at, write_bit_io_row, write_bit_row, device}
@@ -28,7 +28,7 @@ use Rattle.avr_serial.specs.declared.register.Register.{Register}
 use Rattle.avr_serial.specs.declared.register.Register.TheVariants.{Spcr, Spsr, Spdr, Ucsr0a, Ucsr0b, Ucsr0c, Ubrr0Low, Ubrr0High, Udr0}
 use Rattle.avr_serial.specs.declared.spi.Spi.{Spi}
 use Rattle.avr_serial.specs.declared.usart.Usart.{Usart}
-use Rattle.avr_table.specs.declared.stop.DeviceStop.{DeviceStop}
+use Rattle.avr_sheet.specs.declared.stop.DeviceStop.{DeviceStop}
 use Rattle.avr_timer.specs.Timers.{TimersState}
 use Rattle.avr_timer.specs.Writes.{write_outcome, answer_of, left_by}
 

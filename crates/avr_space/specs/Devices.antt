@@ -4,7 +4,7 @@
 use Rattle.std.specs.Prelude.{ℕ, ◌+◌, ◌^◌, ◌==◌, Bool, not, Option, Some, None, Result, Ok, Err, ◌&&◌, if◌then◌else◌, nat_le, nat_lt, slice_index, slice_set}
 use Rattle.avr_core.specs.Ask.{Give, Call}
 use Rattle.avr_core.specs.Calls.{DataCall, Read, Write, WriteBit, AnswerTo as DataAnswer}
-use Rattle.avr_core.specs.Registers.{with_bit}
+use Rattle.avr_sheet.specs.Bits.{with_bit}
 use Rattle.avr_core.specs.declared.bus.DataEnd.{DataEnd}
 use Rattle.avr_core.specs.declared.bus.DataEnd.TheVariants as ends
 use Rattle.avr_space.specs.Owners.{owner_of}
@@ -21,7 +21,7 @@ use Rattle.avr_ports.specs.Requests.{pending_vector as ports_pending, served_sta
 use Rattle.avr_ports.specs.Writes.{read_value as ports_value, written as ports_written, written_bit as ports_written_bit}
 use Rattle.avr_serial.specs.Serial.{reset_state as reset_serial, read_value as serial_value, read_state as serial_read, write_answer as serial_answer, written as serial_written, exchanged, passed as serial_passed, pending_vector as serial_pending, served_state as serial_served}
 use Rattle.avr_serial.specs.Spi.{start_answer}
-use Rattle.avr_table.specs.declared.stop.DeviceStop.{DeviceStop}
+use Rattle.avr_sheet.specs.declared.stop.DeviceStop.{DeviceStop}
 use Rattle.avr_timer.specs.Requests.{pending_vector as timers_pending, served_state as timers_served}
 use Rattle.avr_timer.specs.Timers.{reset_state as reset_timers, passed as timers_passed}
 use Rattle.avr_timer.specs.Writes.{read_value as timers_value, read_state as timers_read, write_outcome, answer_of, left_by}

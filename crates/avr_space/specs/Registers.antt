@@ -1,10 +1,10 @@
 -- The data space beside the core (ATmega328P datasheet, "Register Summary"): the registers that no device here looks
 -- at, and which writes of them stop the board.
 use Rattle.std.specs.Prelude.{ℕ, ◌==◌, Bool, not, ◌&&◌, ◌||◌, List, [], ◌∷◌, Option, Some, None, if◌then◌else◌, slice_set}
-use Rattle.avr_alu.specs.Sreg.{is_set}
+use Rattle.avr_sheet.specs.Bits.{is_set}
 use Rattle.avr_core.specs.Memory.{zeros}
-use Rattle.avr_table.specs.declared.stop.DeviceStop.{DeviceStop}
-use Rattle.avr_table.specs.declared.stop.DeviceStop.TheVariants.{Adc, Twi, Watchdog, Eeprom}
+use Rattle.avr_sheet.specs.declared.stop.DeviceStop.{DeviceStop}
+use Rattle.avr_sheet.specs.declared.stop.DeviceStop.TheVariants.{Adc, Twi, Watchdog, Eeprom}
 
 -- The registers that are stored as they are written, by their data addresses. The other named registers belong to the
 -- ports, the timers and the serial devices; GTCCR (43) and TCCR1C (82) read 00.

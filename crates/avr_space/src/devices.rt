@@ -5,14 +5,14 @@ ghost use Rattle.avr_space.specs.Devices.{reset_devices, handled, or_stop, same,
 ghost use Rattle.avr_space.specs.Owners.{owner_of};
 ghost use Rattle.avr_space.specs.Registers.{reset_memory};
 
-use crate::bits::with_bit;
+use avr_sheet::with_bit;
 use crate::owner::{Owner, owner_of};
 use crate::bus::BusPeer;
 use crate::stored::stop_of_stored;
 use avr_core::{DataEnd, Memory};
 use avr_ports::Ports;
 use avr_serial::Serial;
-use avr_table::DeviceStop;
+use avr_sheet::DeviceStop;
 use avr_timer::Timers;
 
 /// Data address of SPDR.

@@ -2,14 +2,12 @@
 //! microcontroller and the chip.
 #![tactic(auto)]
 
-mod bits;
 mod bus;
 mod core_bus;
 mod devices;
 mod owner;
 mod stored;
 
-pub use bits::is_set;
 pub use bus::{BusIsOver, BusPeer};
 pub use core_bus::{run_entry, run_instruction};
 pub use devices::Devices;

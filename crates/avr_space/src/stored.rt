@@ -2,8 +2,8 @@
 ghost use Rattle.std.specs.Prelude.{◌≡◌};
 ghost use Rattle.avr_space.specs.Registers.{stop_of_stored, starts_converter, starts_watchdog, uses_eeprom, stop_if};
 
-use crate::bits::is_set;
-use avr_table::DeviceStop;
+use avr_sheet::is_set;
+use avr_sheet::DeviceStop;
 
 const EECR: u16 = 0x3F;
 

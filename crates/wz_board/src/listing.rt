@@ -8,7 +8,7 @@ ghost use Rattle.wz_board.specs.Listing.{entry_text, flash_word, head_text, list
 use crate::text::digit;
 use avr_enc::text;
 use avr_table::{DecodeFault, Instr, decode};
-use ihex::Image;
+use flash::Image;
 use wz_base::{Sink, WriteError, write_all};
 
 // How many words flash has.

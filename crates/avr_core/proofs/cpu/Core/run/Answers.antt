@@ -6,7 +6,7 @@ use Rattle.avr_core.specs.Meaning.{executed}
 use Rattle.avr_core.specs.Ops.{instr_of}
 use Rattle.avr_core.specs.Registers.{in_flash}
 use Rattle.avr_core.specs.Settled.{Settles}
-use Rattle.ihex.specs.Image.{word_at}
+use Rattle.flash.specs.Image.{word_at}
 use Rattle.avr_core.proofs.cpu.Core.run.Goals as goal
 
 pub returns-clause-settled : goal.returns-clause-settled
