@@ -4,3 +4,5 @@ pub mod Timing
 pub mod Fuel
 pub mod Turns
 pub mod Stops
+pub mod Stretches
+pub mod Trails

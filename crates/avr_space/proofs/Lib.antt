@@ -3,3 +3,4 @@ pub mod Trees
 pub mod Through
 pub mod DeviceCalls
 pub mod Drives
+pub mod Quiet

@@ -3,3 +3,4 @@ pub mod Owners
 pub mod Registers
 pub mod Devices
 pub mod Through
+pub mod Quiet

@@ -3,7 +3,9 @@ ghost use Rattle.std.specs.Prelude.{◌≡◌, ◌+◌, ◌<◌, ◌≤◌, ◌^
 ghost use Rattle.avr_core.specs.Ask.{Plays};
 ghost use Rattle.avr_space.specs.Devices.{reset_devices, handled, or_stop, same, look_row, select_row, drive_by, drive_row, exchange_row, serial_row, spdr_row, timers_row, with_byte, with_int, stored_row, write_io_row, write_row, read_io, read_at, write_bit_io_row, write_bit_row, pending, served, passed};
 ghost use Rattle.avr_space.specs.Owners.{owner_of};
+ghost use Rattle.avr_space.specs.Quiet.{IsQuietUntil, PrintsNoneUntil};
 ghost use Rattle.avr_space.specs.Registers.{reset_memory};
+ghost use Rattle.avr_timer.specs.Laws.{IsHeld};
 
 use avr_sheet::with_bit;
 use crate::owner::{Owner, owner_of};
@@ -304,6 +306,35 @@ impl Devices {
                 None => self.serial.pending(),
             },
         }
+    }
+
+    /// The count of cycles before which nothing is requested: that of the next event of a device, or 0 where something is requested
+    /// now.
+    pub fn quiet_until(&self) -> u64
+        ensures { IsQuietUntil self.now result }
+    {
+        match self.pending() {
+            Some(_) => 0,
+            None => self
+                .timers
+                .quiet_until(self.cycles)
+                .min(self.serial.next_event()),
+        }
+    }
+
+    /// The count of cycles before which no byte enters the USART's shifter: that of the next event of the serial devices.
+    pub fn printed_at(&self) -> u64
+        ensures { PrintsNoneUntil self.now result }
+    {
+        self.serial.next_event()
+    }
+
+    /// The timers hold what fits in them: a fact for proofs, and nothing to run.
+    #[inline(always)]
+    pub fn fits(&self)
+        ensures { IsHeld self.now.timers }
+    {
+        self.timers.fits();
     }
 
     /// Clears the flag of a vector that is served.
