@@ -6,3 +6,4 @@ pub mod Turns
 pub mod Stops
 pub mod Stretches
 pub mod Trails
+pub mod Hurries

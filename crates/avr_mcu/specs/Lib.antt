@@ -3,6 +3,7 @@ pub mod Step
 pub mod Answers
 pub mod Run
 pub mod Turn
+pub mod Hurry
 pub mod Stretch
 pub mod Settled
 pub mod Laws
