@@ -12,3 +12,4 @@ pub mod SizeLaws
 pub mod LifeSteps
 pub mod FitLaws
 pub mod ReadBack
+pub mod Quiet

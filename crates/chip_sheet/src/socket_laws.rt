@@ -18,6 +18,8 @@ ghost use Rattle.chip_sheet.specs.Windows.{flight, unread, rx_byte, in_flight_at
 ghost use Rattle.chip_sheet.specs.Answers.{answer};
 ghost use Rattle.chip_sheet.specs.Legal.{Legal};
 ghost use Rattle.chip_sheet.specs.Replay.{Step, Happens, AllTaken, told};
+ghost use Rattle.chip_sheet.specs.Quiet.{LeavesLife, Untouched, LeavesAll};
+ghost use Rattle.chip_sheet.specs.declared.socket.Cause.TheVariants.{Nothing};
 
 /// A byte that makes no access is answered FF while the select line is high, and 00 while it is low.
 pub fn idle_answer()
@@ -108,4 +110,11 @@ pub fn received_reads_back()
         → released starts past n (lives past n) ≤ q → q < length (got starts past n (lives past n))
         → addr % rx_size past n ≡ (rx_base starts past n (lives past n) + q) % rx_size past n
         → rx_byte starts past n addr ≡ slice_index (got starts past n (lives past n)) q }
+{}
+
+/// What is nothing for a socket leaves its life, lists, windows and what it keeps for the link; and what does not touch the socket,
+/// by no command, event, write or change of a size, leaves all of it.
+pub fn others_stay()
+    ensures life { (starts : Starts) (past : Past) (entry : Entry) (n : ℕ) → cause past n entry ≡ Nothing → LeavesLife starts past entry n }
+    ensures all { (starts : Starts) (past : Past) (entry : Entry) (n : ℕ) → Untouched past entry n → LeavesAll starts past entry n }
 {}
