@@ -13,3 +13,5 @@ pub mod LifeSteps
 pub mod FitLaws
 pub mod ReadBack
 pub mod Quiet
+pub mod BitSums
+pub mod InterruptBits
