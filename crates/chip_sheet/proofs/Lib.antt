@@ -15,3 +15,5 @@ pub mod ReadBack
 pub mod Quiet
 pub mod BitSums
 pub mod InterruptBits
+pub mod AnswerLaws
+pub mod ResetRestores
