@@ -17,3 +17,5 @@ pub mod BitSums
 pub mod InterruptBits
 pub mod AnswerLaws
 pub mod ResetRestores
+pub mod MadeLaws
+pub mod LivesLaws

@@ -11,9 +11,9 @@ ghost use Rattle.chip_sheet.specs.declared.event.LinkEntry.{LinkEntry};
 ghost use Rattle.chip_sheet.specs.Past.{Past, GoesOn};
 ghost use Rattle.chip_sheet.specs.Frames.{access, access_of, is_low};
 ghost use Rattle.chip_sheet.specs.Registers.{is_reset};
-ghost use Rattle.chip_sheet.specs.Life.{cause, status, lives, is_closed};
+ghost use Rattle.chip_sheet.specs.Life.{cause, status, lives, old, is_closed, is_udp};
 ghost use Rattle.chip_sheet.specs.Sizes.{is_size, tx_size, rx_size};
-ghost use Rattle.chip_sheet.specs.Streams.{Starts, sent, taken, got, released, tx_byte, tx_base, rx_base, is_open};
+ghost use Rattle.chip_sheet.specs.Streams.{Starts, sent, taken, got, released, tx_byte, tx_base, rx_base, is_open, is_made};
 ghost use Rattle.chip_sheet.specs.Windows.{flight, unread, rx_byte, in_flight_at, offered_length, offered, room_length};
 ghost use Rattle.chip_sheet.specs.Answers.{answer, byte_at};
 ghost use Rattle.chip_sheet.specs.Legal.{Legal, FitsAfter};
@@ -30,7 +30,7 @@ ghost use Rattle.chip_sheet.specs.LinkAnswers.{LinkAnswer, entry_by, may_answer}
 ghost use Rattle.chip_sheet.specs.Sending.{fresh};
 ghost use Rattle.chip_sheet.specs.Receiving as receiving_of;
 ghost use Rattle.chip_sheet.specs.Buffers.{sending, receiving};
-ghost use Rattle.chip_sheet.specs.Quiet.{LeavesLife, Untouched, LeavesAll};
+ghost use Rattle.chip_sheet.specs.Quiet.{LeavesLife, Untouched, LeavesAll, LeavesOther};
 ghost use Rattle.chip_sheet.specs.declared.socket.Cause.TheVariants.{Nothing};
 
 /// A byte that makes no access is answered FF while the select line is high, and 00 while it is low.
@@ -163,4 +163,18 @@ pub fn blocks_of_a_socket()
     ensures registers { (n : ℕ) → block_of (registers_of n) ≡ Registers n }
     ensures tx { (n : ℕ) → block_of (tx_buffer_of n) ≡ TxBuffer n }
     ensures rx { (n : ℕ) → block_of (rx_buffer_of n) ≡ RxBuffer n }
+{}
+
+/// An open socket has a made connection, but in UDP, where in a legal history there is none.
+pub fn open_is_made()
+    ensures tcp { (past : Past) (n : ℕ) → is_open (status past n) ≡ true → is_udp (status past n) ≡ false → is_made past n (lives past n) ≡ true }
+    ensures udp { (starts : Starts) (past : Past) (n : ℕ) → Legal starts past → is_udp (status past n) ≡ true → is_made past n (lives past n) ≡ false }
+{}
+
+/// The lives of a socket: each entry begins at most one; the one that the link is still to forget is closed, and an earlier one or the
+/// last; and an entry changes the lists and counts of the present life alone.
+pub fn lives_of_a_socket()
+    ensures few { (past : Past) (n : ℕ) → lives past n ≤ length past }
+    ensures old { (past : Past) (n life : ℕ) → old past n ≡ Some life → (life ≤ lives past n) × (life ≡ lives past n → is_closed (status past n) ≡ true) }
+    ensures others { (starts : Starts) (past : Past) (entry : Entry) (n life : ℕ) → (lives past n ≡ life → ⊥) → LeavesOther starts past entry n life }
 {}
