@@ -19,3 +19,4 @@ pub mod AnswerLaws
 pub mod ResetRestores
 pub mod MadeLaws
 pub mod LivesLaws
+pub mod SendLaws
