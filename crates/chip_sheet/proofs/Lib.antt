@@ -20,3 +20,4 @@ pub mod ResetRestores
 pub mod MadeLaws
 pub mod LivesLaws
 pub mod SendLaws
+pub mod DatagramLaws
