@@ -17,3 +17,5 @@ pub mod AnswerLaws
 pub mod ResetRestores
 pub mod MadeLaws
 pub mod LivesLaws
+pub mod SendLaws
+pub mod DatagramLaws

@@ -104,3 +104,17 @@ lives_one at why =
 pub lives_few : (past : Past) (n : ℕ) → lives past n ≤ length past
 lives_few [] n = omega arith
 lives_few (entry ∷ past) n = let few = lives_few past n in let one = lives_one (life past n) (cause past n entry) in omega (arith, few, one)
+
+-- An old life stays until it is dropped.
+old_kept : (why : Cause) (closes : Option ℕ) (l : ℕ) → (why ≡ because.Dropped → ⊥) → old_after why closes (Some l) ≡ Some l
+old_kept because.Dropped closes l h = absurd (h refl)
+old_kept why closes l h = refl
+
+old_on : (at : Life) (why : Cause) (l : ℕ) → (why ≡ because.Dropped → ⊥) → at.old ≡ Some l → (life_after at why).old ≡ Some l
+old_on at why l other h =
+    let after = next at.status why (facts_of why at) in
+    cond_both (begins why at.status) (new_life at after) (lives_on at why after) (λ (now : Life). now.old ≡ Some l) (λ new. h)
+    (λ on. ap (old_after why (closing at after)) h ∙ old_kept why (closing at after) l other)
+
+pub old_stays : (past : Past) (entry : Entry) (n l : ℕ) → (cause past n entry ≡ because.Dropped → ⊥) → old past n ≡ Some l → old (entry ∷ past) n ≡ Some l
+old_stays past entry n l other h = old_on (life past n) (cause past n entry) l other h
