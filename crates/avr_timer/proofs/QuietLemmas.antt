@@ -242,9 +242,9 @@ request-comes s now until0 until1 until2 first until one_is is zero one two orde
     let are = quiet-of (passed s now until) none in
     elim (least-of-three until0 until1 until2 first until one_is is) [
       | inl same ↦ subst (λ (n : ℕ). RequestComes8 (prescale_of (s.timer0.tccrb % 8)) s.timer0 now n) (sym same) zero order small
-        (kept _ _ _ (sym (timsk8-kept (prescale_of (s.timer0.tccrb % 8)) (course8 (mode8 s.timer0) s.timer0.ocra) s.timer0 now until)) are.timer0)
+          (kept _ _ _ (sym (timsk8-kept (prescale_of (s.timer0.tccrb % 8)) (course8 (mode8 s.timer0) s.timer0.ocra) s.timer0 now until)) are.timer0)
       | inr (inl same) ↦ subst (λ (n : ℕ). RequestComes16 (prescale_of (s.timer1.tccrb % 8)) s.timer1 now n) (sym same) one order small
-        (kept _ _ _ (sym (timsk16-kept (prescale_of (s.timer1.tccrb % 8)) (course16 (mode16 s.timer1) s.timer1.ocra s.timer1.icr) s.timer1 now until)) are.timer1)
+          (kept _ _ _ (sym (timsk16-kept (prescale_of (s.timer1.tccrb % 8)) (course16 (mode16 s.timer1) s.timer1.ocra s.timer1.icr) s.timer1 now until)) are.timer1)
       | inr (inr same) ↦ subst (λ (n : ℕ). RequestComes8 (timer2_prescale_of (s.timer2.tccrb % 8)) s.timer2 now n) (sym same) two order small
-        (kept _ _ _ (sym (timsk8-kept (timer2_prescale_of (s.timer2.tccrb % 8)) (course8 (mode8 s.timer2) s.timer2.ocra) s.timer2 now until)) are.timer2)
+          (kept _ _ _ (sym (timsk8-kept (timer2_prescale_of (s.timer2.tccrb % 8)) (course8 (mode8 s.timer2) s.timer2.ocra) s.timer2 now until)) are.timer2)
     ]
