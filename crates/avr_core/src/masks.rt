@@ -1,6 +1,6 @@
 //! Single bits of a byte.
 ghost use Rattle.std.specs.Prelude.{◌≡◌, ◌<◌};
-ghost use Rattle.avr_alu.specs.Sreg.{is_set};
+ghost use Rattle.avr_sheet.specs.Bits.{is_set};
 ghost use Rattle.avr_core.specs.Registers.{with_bit};
 
 /// Whether bit `b`, 0 to 7, of a byte is set.

@@ -5,7 +5,7 @@ use crate::bus::DataBus;
 use crate::cpu::{Core, X, Y, Z, above};
 use crate::went::Went;
 use avr_table::Moves;
-use ihex::Image;
+use flash::Image;
 
 impl Core {
     ghost use Rattle.avr_core.specs.Ask.{Plays};

@@ -64,7 +64,7 @@ impl Line {
         }
     }
 
-    // A number in decimal, with no leading zeros.
+    /// A number in decimal, with no leading zeros.
     fn push_decimal(&mut self, n: u16)
         requires { length self.old + length (decimal n) ≤ 32 }
         ensures { self.new ≡ self.old ++ decimal n }
@@ -77,7 +77,7 @@ impl Line {
         }
     }
 
-    // A number of at most five decimal digits.
+    /// A number of at most five decimal digits.
     fn push_number(&mut self, n: u16)
         requires { length self.old + 5 ≤ 32 }
         ensures is { self.new ≡ self.old ++ decimal n }

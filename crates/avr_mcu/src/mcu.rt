@@ -11,8 +11,8 @@ use crate::run_core::{run_entry, run_instruction};
 use crate::trail::Trail;
 use crate::went::McuWent;
 use avr_core::{Core, Went};
-use ihex::{Image, NoMemory};
-use std::alloc::Global;
+use flash::Image;
+use std::alloc::{AllocError, Global};
 use std::marker::Model;
 
 /// Data address of SMCR, whose bit 0 enables sleeping.
@@ -57,7 +57,7 @@ impl Mcu {
     ghost use Rattle.avr_mcu.specs.State.{printed, reset_state, taken};
 
     /// The part after reset, with this flash. The error says that no memory was left.
-    pub fn new(alloc: Global, image: Image) -> Result<Mcu, NoMemory>
+    pub fn new(alloc: Global, image: Image) -> Result<Mcu, AllocError>
         ensures { IfOk result (λ mcu. mcu ≡ reset_state image) }
     {
         Ok(Mcu {

@@ -39,7 +39,7 @@ use Rattle.avr_table.specs.declared.instr.Products.{Products}
 use Rattle.avr_table.specs.declared.instr.Products.TheVariants as products
 use Rattle.avr_table.specs.declared.instr.Sums.{Sums}
 use Rattle.avr_table.specs.declared.instr.Sums.TheVariants as sums
-use Rattle.ihex.specs.Image.{word_at}
+use Rattle.flash.specs.Image.{word_at}
 
 -- An answer that says that the bus is over.
 abbrev pub is_data_over : {T : Type 0} → Result T DataEnd → Bool

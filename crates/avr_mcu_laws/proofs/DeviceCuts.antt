@@ -24,7 +24,7 @@ use Rattle.avr_ports.specs.Ports.{PortsState}
 use Rattle.avr_ports.specs.Writes.{written as ports_written, written_bit as ports_written_bit}
 use Rattle.avr_serial.specs.Serial.{exchanged, write_answer}
 use Rattle.avr_serial.specs.Spi.{start_answer}
-use Rattle.avr_table.specs.declared.stop.DeviceStop.{DeviceStop}
+use Rattle.avr_sheet.specs.declared.stop.DeviceStop.{DeviceStop}
 use Rattle.avr_timer.specs.Writes.{write_outcome, answer_of}
 
 -- An answer of the bus that says that it is over.

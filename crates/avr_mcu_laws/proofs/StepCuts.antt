@@ -1,6 +1,6 @@
 -- A step of the microcontroller ends with the bus over exactly where a call on the bus was answered so.
 use Rattle.std.proofs.Common.{◌≡◌, ◌↔◌, ℕ, ◌+◌, ◌%◌, ◌==◌, Bool, true, false, List, [], ◌∷◌, Option, Some, None, is_some, IsSome, Result, Ok, Err, is_err, refl, sym, ap, ◌∙◌, slice_index}
-use Rattle.avr_alu.specs.Sreg.{is_set}
+use Rattle.avr_sheet.specs.Bits.{is_set}
 use Rattle.avr_core.specs.Ask.{Give, Call}
 use Rattle.avr_core.specs.Meaning.{meaning, interrupted}
 use Rattle.avr_core.specs.Steps.{Stepped}

@@ -3,7 +3,7 @@ use Rattle.std.specs.Prelude.{ℕ, Bool, true, false, not, ◌==◌, List, [], �
 use Rattle.std.specs.List.{slice_split}
 use Rattle.hex.specs.Hex.{decode_sized}
 use Rattle.hex.specs.declared.error.FromHexError.{FromHexError}
-use Rattle.chip_sheet.specs.declared.event.BusEvent.TheVariants.{Select, Byte, Look}
+use Rattle.board_bus.specs.declared.event.BusEvent.TheVariants.{Select, Byte, Look}
 use Rattle.chip_sheet.specs.Replay.{Step, Asks}
 use Rattle.board_gen.specs.Links.{link}
 

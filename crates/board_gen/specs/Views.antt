@@ -2,8 +2,8 @@
 use Rattle.std.specs.Prelude.{◌≡◌, ℕ, List, map, Result, Ok, Err, Vec}
 use Rattle.std.specs.Borrow.{Bor}
 use Rattle.std.specs.declared.alloc.Global.{Global}
-use Rattle.chip_sheet.specs.Past as past
-use Rattle.chip_sheet.specs.Past.{LinkEntry}
+use Rattle.chip_sheet.specs.declared.event.LinkEntry.TheVariants as entry
+use Rattle.chip_sheet.specs.declared.event.LinkEntry.{LinkEntry}
 use Rattle.chip_sheet.specs.Replay.{Step, Asks, Happens}
 use Rattle.board_gen.specs.declared.token.LinkToken.{LinkToken}
 use Rattle.board_gen.specs.declared.token.LinkToken.TheVariants.{Linked, Accepted, Refused, TimedOut, Took, Got, Datagram, Ended, Shut, Failed, Dropped}
@@ -21,17 +21,17 @@ texts = map (λ t. t.now)
 
 -- What a link token says happened.
 abbrev pub entry_of : LinkToken → LinkEntry
-entry_of Linked = past.Linked
-entry_of (Accepted from) = past.Accepted from
-entry_of Refused = past.Refused
-entry_of TimedOut = past.TimedOut
-entry_of (Took count) = past.Took count
-entry_of (Got bytes) = past.Got bytes.items
-entry_of (Datagram from bytes) = past.Datagram from bytes.items
-entry_of Ended = past.Ended
-entry_of Shut = past.Shut
-entry_of Failed = past.Failed
-entry_of Dropped = past.Dropped
+entry_of Linked = entry.Linked
+entry_of (Accepted from) = entry.Accepted from
+entry_of Refused = entry.Refused
+entry_of TimedOut = entry.TimedOut
+entry_of (Took count) = entry.Took count
+entry_of (Got bytes) = entry.Got bytes.items
+entry_of (Datagram from bytes) = entry.Datagram from bytes.items
+entry_of Ended = entry.Ended
+entry_of Shut = entry.Shut
+entry_of Failed = entry.Failed
+entry_of Dropped = entry.Dropped
 
 -- The step that a token is.
 abbrev pub step_of : Token → Step

@@ -1,22 +1,27 @@
--- What was received in a life is a front of what the link supplied in it: the two are the same until the life leaves ESTABLISHED,
--- and later no byte is received.
-use Rattle.std.proofs.Common.{◌≡◌, ◌≤◌, ◌<◌, ℕ, ◌+◌, Bool, true, false, ◌&&◌, cond, eqb, List, [], ◌∷◌, ◌++◌, append-nil, append_assoc, Option, None, Some, inl, inr, refl, sym, ap, ◌∙◌, subst, arith, ◌⊎◌}
-use Rattle.std.proofs.lemmas.Bool.{and_right, or_cases, ne_eqb, cond-false, cond_both, false≢true}
+-- What was received in the life of a connection is a front of what the link supplied in it: the two are the same until the life leaves
+-- ESTABLISHED, and later no byte is received.
+use Rattle.std.proofs.Common.{◌≡◌, ◌<◌, ℕ, ◌+◌, Bool, true, false, ◌&&◌, ◌||◌, cond, eqb, ltb, List, [], ◌∷◌, ◌++◌, length, append-nil, append_assoc, Option, None, Some, inl, inr, refl, sym, ap, ◌∙◌, subst, arith, ◌⊎◌}
+use Rattle.std.proofs.lemmas.Bool.{cases_Bool, and_left, and_right, and_parts, or_cases, ne_eqb, cond-false, cond_both, false≢true}
 use Rattle.chip_sheet.specs.declared.event.Addr.{Addr}
 use Rattle.chip_sheet.specs.declared.event.ConnId.{ConnId}
 use Rattle.chip_sheet.specs.declared.socket.Status.{Status}
-use Rattle.chip_sheet.specs.declared.socket.Status.TheVariants.{Closed, Init, Listen, SynSent, Established, FinWait, CloseWait, LastAck}
+use Rattle.chip_sheet.specs.declared.socket.Status.TheVariants.{Closed, Init, Listen, SynSent, Established, FinWait, CloseWait, LastAck, Udp}
 use Rattle.chip_sheet.specs.declared.socket.Cause.{Cause}
 use Rattle.chip_sheet.specs.declared.socket.Cause.TheVariants as because
 use Rattle.chip_sheet.specs.declared.socket.Due.{Due}
 use Rattle.chip_sheet.specs.declared.socket.Due.TheVariants as due
-use Rattle.chip_sheet.specs.Past.{Past, Entry, Bus, Link, Rest, LinkEntry, Got}
-use Rattle.chip_sheet.specs.Life.{Life, life, life_after, lives_on, new_life, other_came, next, begins, cause, status, lives}
-use Rattle.chip_sheet.specs.Streams.{Starts, is_of, is_established, got, supplied, bytes_of}
+use Rattle.chip_sheet.specs.declared.event.Entry.{Entry}
+use Rattle.chip_sheet.specs.declared.event.Entry.TheVariants.{Bus, Link, Rest}
+use Rattle.chip_sheet.specs.declared.event.LinkEntry.{LinkEntry}
+use Rattle.chip_sheet.specs.declared.event.LinkEntry.TheVariants.{Linked, Accepted, Got, Datagram, Dropped}
+use Rattle.chip_sheet.specs.Past.{Past}
+use Rattle.chip_sheet.specs.Life.{Life, Facts, facts_of, life, life_after, lives_on, new_life, next, begins, is_udp, cause, status, lives}
+use Rattle.chip_sheet.specs.Streams.{Starts, is_of, is_established, makes, is_made, put_by, free_behind, got, supplied, bytes_of}
 use Rattle.chip_sheet.specs.Windows.{flight, rx_free}
-use Rattle.chip_sheet.specs.LinkCalls.{outgoing, incoming, outgoing_in, incoming_in, connection, connect_address, listen_port, answers_call, fits}
+use Rattle.chip_sheet.specs.Connections.{is_drop}
+use Rattle.chip_sheet.specs.LinkCalls.{outgoing, incoming, outgoing_in, incoming_in, connection, kept_address, kept_port, answers_call, fits}
 use Rattle.chip_sheet.specs.Legal.{Legal}
-use Rattle.chip_sheet.proofs.LifeSteps.{is_fresh, life_cases, got_other, unborn_got}
+use Rattle.chip_sheet.proofs.LifeSteps.{is_fresh, lives_grow, got_other, unborn_got}
 use Rattle.chip_sheet.proofs.Within.{both_same}
 
 -- A link event supplies bytes to the socket's present life alone.
@@ -25,9 +30,6 @@ supplied_other past (Link m what) n life h =
     cond-false (is_of past m n life) _ (supplied past n life) (and_right (eqb m n) (eqb (lives past n) life) (ne_eqb (lives past n) life h))
 supplied_other past (Bus e a) n life h = refl
 supplied_other past Rest n life h = refl
-
-lives_grow : (at : Life) (why : Cause) → at.lives ≤ (life_after at why).lives
-lives_grow at why = life_cases (λ (after : Life). at.lives ≤ after.lives) at why (omega arith) (omega arith)
 
 -- Nothing was supplied in a life that has not begun.
 unborn_supplied : (past : Past) (n life : ℕ) → lives past n < life → supplied past n life ≡ []
@@ -45,31 +47,37 @@ is_young SynSent = true
 is_young Established = true
 is_young at = false
 
+closes_not_young : (b : Bool) → is_young (cond b Closed FinWait) ≡ true → ⊥
+closes_not_young true h = cc
+closes_not_young false h = cc
+
 -- No row leads back to it.
-young_next : (at : Status) (why : Cause) (both : Bool) → begins why at ≡ false → is_young (next at why both) ≡ true → is_young at ≡ true
-young_next Init why both old h = refl
-young_next Listen why both old h = refl
-young_next SynSent why both old h = refl
-young_next Established why both old h = refl
-young_next Closed because.Open both old h = cc
-young_next Closed why both old h = cc
-young_next FinWait because.Ended true old h = cc
-young_next FinWait because.Ended false old h = cc
-young_next FinWait because.Shut true old h = cc
-young_next FinWait because.Shut false old h = cc
-young_next FinWait why both old h = cc
-young_next CloseWait because.Reset both old h = cc
-young_next CloseWait why both old h = cc
-young_next LastAck because.Reset both old h = cc
-young_next LastAck why both old h = cc
+young_next : (at : Status) (why : Cause) (facts : Facts) → begins why at ≡ false → is_young (next at why facts) ≡ true → is_young at ≡ true
+young_next Init why facts old h = refl
+young_next Listen why facts old h = refl
+young_next SynSent why facts old h = refl
+young_next Established why facts old h = refl
+young_next Closed because.OpenTcp facts old h = cc
+young_next Closed because.OpenUdp facts old h = cc
+young_next Closed why facts old h = cc
+young_next FinWait because.Ended facts old h = absurd (closes_not_young facts.both h)
+young_next FinWait because.Shut facts old h = absurd (closes_not_young facts.both h)
+young_next FinWait why facts old h = cc
+young_next CloseWait because.Reset facts old h = cc
+young_next CloseWait why facts old h = cc
+young_next LastAck because.Reset facts old h = cc
+young_next LastAck why facts old h = cc
+young_next Udp because.Reset facts old h = cc
+young_next Udp why facts old h = cc
 
 -- What a young socket was: young in the same life, or its life begins.
 young_from : (at : Life) (why : Cause) → is_young (life_after at why).status ≡ true
     → (((life_after at why).lives ≡ at.lives) × (is_young at.status ≡ true)) ⊎ ((life_after at why).lives ≡ at.lives + 1)
 young_from at why =
-    cond_both (begins why at.status) (new_life at) (lives_on at why (next at.status why (other_came why at)))
-    (λ (after : Life). is_young after.status ≡ true → ((after.lives ≡ at.lives) × (is_young at.status ≡ true)) ⊎ (after.lives ≡ at.lives + 1))
-    (λ new h. inr refl) (λ old h. inl (refl, young_next at.status why (other_came why at) old h))
+    let after = next at.status why (facts_of why at) in
+    cond_both (begins why at.status) (new_life at after) (lives_on at why after)
+    (λ (now : Life). is_young now.status ≡ true → ((now.lives ≡ at.lives) × (is_young at.status ≡ true)) ⊎ (now.lives ≡ at.lives + 1))
+    (λ new h. inr refl) (λ old h. inl (refl, young_next at.status why (facts_of why at) old h))
 
 young_either : (at : Status) → is_young at ≡ true → (is_established at ≡ true) ⊎ (is_fresh at ≡ true)
 young_either Init h = inr refl
@@ -78,86 +86,294 @@ young_either SynSent h = inr refl
 young_either Established h = inl refl
 young_either at h = absurd (false≢true h)
 
--- No call that is due on a fresh socket is answered with bytes.
-no_read_out : (at : Status) (c : ConnId) (to : Addr) (flying : ℕ) (shut : Bool) (flight free : ℕ) (bytes : List ℕ) → is_fresh at ≡ true
-    → answers_call (outgoing_in at c to flying shut) flight free (Got bytes) ≡ false
-no_read_out Init c to flying shut flight free bytes h = refl
-no_read_out Listen c to flying shut flight free bytes h = refl
-no_read_out SynSent c to flying shut flight free bytes h = refl
-no_read_out at c to flying shut flight free bytes h = cc
+drop_only : (c : ConnId) (flight free : ℕ) (what : LinkEntry) → is_drop what ≡ false → answers_call (due.Drop c) flight free what ≡ false
+drop_only c flight free Dropped h = cc
+drop_only c flight free Linked h = refl
+drop_only c flight free what h = refl
 
-no_read_in : (at : Status) (c : ConnId) (port room : ℕ) (ended : Bool) (flight free : ℕ) (bytes : List ℕ) → is_fresh at ≡ true
-    → answers_call (incoming_in at c port room ended) flight free (Got bytes) ≡ false
-no_read_in Init c port room ended flight free bytes h = refl
-no_read_in Listen c port room ended flight free bytes h = refl
-no_read_in SynSent c port room ended flight free bytes h = refl
-no_read_in at c port room ended flight free bytes h = cc
+old_out : (old : Option ℕ) (n : ℕ) (call : Due) (flight free : ℕ) (what : LinkEntry) → is_drop what ≡ false → answers_call call flight free what ≡ false
+    → answers_call (elim old as (λ o. Due) [ None ↦ call | Some life ↦ due.Drop (connection n life) ]) flight free what ≡ false
+old_out None n call flight free what drop h = h
+old_out (Some life) n call flight free what drop h = drop_only (connection n life) flight free what drop
 
-old_out : (old : Option ℕ) (n : ℕ) (call : Due) (flight free : ℕ) (bytes : List ℕ) → answers_call call flight free (Got bytes) ≡ false
-    → answers_call (elim old as (λ o. Due) [ None ↦ call | Some life ↦ due.Drop (connection n life) ]) flight free (Got bytes) ≡ false
-old_out None n call flight free bytes h = h
-old_out (Some life) n call flight free bytes h = refl
+old_in : (old : Option ℕ) (call : Due) (flight free : ℕ) (what : LinkEntry) → answers_call call flight free what ≡ false
+    → answers_call (elim old as (λ o. Due) [ None ↦ call | Some life ↦ due.Nothing ]) flight free what ≡ false
+old_in None call flight free what h = h
+old_in (Some life) call flight free what h = refl
 
-old_in : (old : Option ℕ) (call : Due) (flight free : ℕ) (bytes : List ℕ) → answers_call call flight free (Got bytes) ≡ false
-    → answers_call (elim old as (λ o. Due) [ None ↦ call | Some life ↦ due.Nothing ]) flight free (Got bytes) ≡ false
-old_in None call flight free bytes h = h
-old_in (Some life) call flight free bytes h = refl
-
--- A link event that fits a fresh socket supplies nothing.
-fresh_none : (starts : Starts) (past : Past) (n : ℕ) (what : LinkEntry) → is_fresh (status past n) ≡ true → fits starts past n what ≡ true → bytes_of what ≡ []
-fresh_none starts past n (Got bytes) fresh h =
-    let at = life past n in
+-- A link event that answers no call of a socket in its status, and is no drop, does not fit.
+pub neither_call : (starts : Starts) (past : Past) (n : ℕ) (what : LinkEntry) → is_drop what ≡ false
+    → answers_call (outgoing_in (status past n) (connection n (lives past n)) (kept_address past n) (kept_port past n) (flight starts past n) (life past n).shut) (flight starts past n) (rx_free starts past n) what ≡ false
+    → answers_call (incoming_in (status past n) (connection n (lives past n)) (kept_port past n) (rx_free starts past n) (life past n).ended) (flight starts past n) (rx_free starts past n) what ≡ false
+    → fits starts past n what ≡ true → ⊥
+neither_call starts past n what drop out in_ h =
     let fl = flight starts past n in
     let fr = rx_free starts past n in
-    elim (or_cases (answers_call (outgoing starts past n) fl fr (Got bytes)) (answers_call (incoming starts past n) fl fr (Got bytes)) h) [
-      | inl out ↦
-          let call = outgoing_in at.status (connection n at.lives) (connect_address past n) fl at.shut in
-          absurd (false≢true (sym (old_out at.old n call fl fr bytes (no_read_out at.status (connection n at.lives) (connect_address past n) fl at.shut fl fr bytes fresh)) ∙ out))
-      | inr in_ ↦
-          let call = incoming_in at.status (connection n at.lives) (listen_port past n) fr at.ended in
-          absurd (false≢true (sym (old_in at.old call fl fr bytes (no_read_in at.status (connection n at.lives) (listen_port past n) fr at.ended fl fr bytes fresh)) ∙ in_))
+    elim (or_cases (answers_call (outgoing starts past n) fl fr what) (answers_call (incoming starts past n) fl fr what) h) [
+      | inl holds ↦ false≢true (sym (old_out (life past n).old n (outgoing_in (status past n) (connection n (lives past n)) (kept_address past n) (kept_port past n) fl (life past n).shut) fl fr what drop out) ∙ holds)
+      | inr holds ↦ false≢true (sym (old_in (life past n).old (incoming_in (status past n) (connection n (lives past n)) (kept_port past n) fr (life past n).ended) fl fr what in_) ∙ holds)
     ]
-fresh_none starts past n what fresh h = refl
 
--- In ESTABLISHED both get the bytes; before it there are none.
-both_get : (of_it on : Bool) (before before2 more : List ℕ) → before ≡ before2 → (on ≡ true) ⊎ (of_it ≡ true → more ≡ [])
-    → cond of_it (before ++ more) before ≡ cond (of_it && on) (before2 ++ more) before2
-both_get true true before before2 more e way = ap (λ (l : List ℕ). l ++ more) e
-both_get true false before before2 more e (inl on) = cc
-both_get true false before before2 more e (inr none) = ap (λ (l : List ℕ). before ++ l) (none refl) ∙ append-nil before ∙ e
-both_get false on before before2 more e way = e
+either_no : (b : Bool) (x y : Due) (flight free : ℕ) (what : LinkEntry) → answers_call x flight free what ≡ false → answers_call y flight free what ≡ false → answers_call (cond b x y) flight free what ≡ false
+either_no true x y flight free what h k = h
+either_no false x y flight free what h k = k
 
-link_way : (starts : Starts) (past : Past) (m n : ℕ) (what : LinkEntry) → fits starts past m what ≡ true
-    → (is_established (status past n) ≡ true) ⊎ (is_fresh (status past n) ≡ true)
-    → (is_established (status past n) ≡ true) ⊎ (is_of past m n (lives past n) ≡ true → bytes_of what ≡ [])
-link_way starts past m n what may (inl on) = inl on
-link_way starts past m n what may (inr fresh) =
-    inr (λ of_it. fresh_none starts past n what fresh (subst (λ (k : ℕ). fits starts past k what ≡ true) (both_same m n (lives past n) (lives past n) of_it).0 may))
+-- Events that bring bytes.
+abbrev brings : LinkEntry → Bool
+brings (Got bytes) = true
+brings (Datagram from body) = true
+brings what = false
+
+-- No call that is due on a fresh socket is answered with them.
+out_fresh : (at : Status) (c : ConnId) (to : Addr) (port flying : ℕ) (shut : Bool) (flight free : ℕ) (what : LinkEntry) → is_fresh at ≡ true → brings what ≡ true
+    → answers_call (outgoing_in at c to port flying shut) flight free what ≡ false
+out_fresh Init c to port flying shut flight free what h b = refl
+out_fresh Listen c to port flying shut flight free what h b = refl
+out_fresh SynSent c to port flying shut flight free (Got bytes) h b = refl
+out_fresh SynSent c to port flying shut flight free (Datagram from body) h b = refl
+out_fresh SynSent c to port flying shut flight free what h b = cc
+out_fresh at c to port flying shut flight free what h b = cc
+
+in_fresh : (at : Status) (c : ConnId) (port room : ℕ) (ended : Bool) (flight free : ℕ) (what : LinkEntry) → is_fresh at ≡ true → brings what ≡ true
+    → answers_call (incoming_in at c port room ended) flight free what ≡ false
+in_fresh Init c port room ended flight free what h b = refl
+in_fresh SynSent c port room ended flight free what h b = refl
+in_fresh Listen c port room ended flight free (Got bytes) h b = refl
+in_fresh Listen c port room ended flight free (Datagram from body) h b = refl
+in_fresh Listen c port room ended flight free what h b = cc
+in_fresh at c port room ended flight free what h b = cc
+
+no_drop_brings : (what : LinkEntry) → brings what ≡ true → is_drop what ≡ false
+no_drop_brings Dropped h = cc
+no_drop_brings what h = refl
+
+fresh_brings : (starts : Starts) (past : Past) (n : ℕ) (what : LinkEntry) → is_fresh (status past n) ≡ true → brings what ≡ true → fits starts past n what ≡ true → ⊥
+fresh_brings starts past n what fresh b =
+    neither_call starts past n what (no_drop_brings what b)
+    (out_fresh (status past n) (connection n (lives past n)) (kept_address past n) (kept_port past n) (flight starts past n) (life past n).shut (flight starts past n) (rx_free starts past n) what fresh b)
+    (in_fresh (status past n) (connection n (lives past n)) (kept_port past n) (rx_free starts past n) (life past n).ended (flight starts past n) (rx_free starts past n) what fresh b)
+
+-- Nor does a datagram come in ESTABLISHED.
+out_datagram : (at : Status) (c : ConnId) (to : Addr) (port flying : ℕ) (shut : Bool) (flight free : ℕ) (from : Addr) (body : List ℕ) → is_established at ≡ true
+    → answers_call (outgoing_in at c to port flying shut) flight free (Datagram from body) ≡ false
+out_datagram Established c to port flying shut flight free from body h = either_no (ltb 0 flying) (due.Write c) due.Nothing flight free (Datagram from body) refl refl
+out_datagram at c to port flying shut flight free from body h = cc
+
+in_datagram : (at : Status) (c : ConnId) (port room : ℕ) (ended : Bool) (flight free : ℕ) (from : Addr) (body : List ℕ) → is_established at ≡ true
+    → answers_call (incoming_in at c port room ended) flight free (Datagram from body) ≡ false
+in_datagram Established c port room ended flight free from body h = either_no (ltb 0 room) (due.Read c) due.Nothing flight free (Datagram from body) refl refl
+in_datagram at c port room ended flight free from body h = cc
+
+established_datagram : (starts : Starts) (past : Past) (n : ℕ) (from : Addr) (body : List ℕ) → is_established (status past n) ≡ true → fits starts past n (Datagram from body) ≡ true → ⊥
+established_datagram starts past n from body on =
+    neither_call starts past n (Datagram from body) refl
+    (out_datagram (status past n) (connection n (lives past n)) (kept_address past n) (kept_port past n) (flight starts past n) (life past n).shut (flight starts past n) (rx_free starts past n) from body on)
+    (in_datagram (status past n) (connection n (lives past n)) (kept_port past n) (rx_free starts past n) (life past n).ended (flight starts past n) (rx_free starts past n) from body on)
+
+-- A connection is made of a fresh socket alone.
+abbrev connects : Due → Bool
+connects (due.Connect c to) = true
+connects call = false
+
+abbrev accepts : Due → Bool
+accepts (due.Accept c port) = true
+accepts call = false
+
+cond_no : (P : Due → Bool) (b : Bool) (x y : Due) → P x ≡ false → P y ≡ false → P (cond b x y) ≡ false
+cond_no P true x y h k = h
+cond_no P false x y h k = k
+
+out_connects : (at : Status) (c : ConnId) (to : Addr) (port flying : ℕ) (shut : Bool) → is_fresh at ≡ false → connects (outgoing_in at c to port flying shut) ≡ false
+out_connects Established c to port flying shut h = cond_no connects (ltb 0 flying) (due.Write c) due.Nothing refl refl
+out_connects CloseWait c to port flying shut h = cond_no connects (ltb 0 flying) (due.Write c) due.Nothing refl refl
+out_connects FinWait c to port flying shut h = cond_no connects (ltb 0 flying) (due.Write c) _ refl (cond_no connects shut due.Nothing (due.Shut c) refl refl)
+out_connects LastAck c to port flying shut h = cond_no connects (ltb 0 flying) (due.Write c) _ refl (cond_no connects shut due.Nothing (due.Shut c) refl refl)
+out_connects Udp c to port flying shut h = cond_no connects (ltb 0 flying) (due.SendTo c port to) due.Nothing refl refl
+out_connects SynSent c to port flying shut h = cc
+out_connects at c to port flying shut h = refl
+
+in_connects : (at : Status) (c : ConnId) (port room : ℕ) (ended : Bool) → connects (incoming_in at c port room ended) ≡ false
+in_connects Established c port room ended = cond_no connects (ltb 0 room) (due.Read c) due.Nothing refl refl
+in_connects FinWait c port room ended = cond_no connects ended due.Nothing (due.ReadAway c) refl refl
+in_connects Listen c port room ended = refl
+in_connects Udp c port room ended = refl
+in_connects at c port room ended = refl
+
+out_accepts : (at : Status) (c : ConnId) (to : Addr) (port flying : ℕ) (shut : Bool) → accepts (outgoing_in at c to port flying shut) ≡ false
+out_accepts Established c to port flying shut = cond_no accepts (ltb 0 flying) (due.Write c) due.Nothing refl refl
+out_accepts CloseWait c to port flying shut = cond_no accepts (ltb 0 flying) (due.Write c) due.Nothing refl refl
+out_accepts FinWait c to port flying shut = cond_no accepts (ltb 0 flying) (due.Write c) _ refl (cond_no accepts shut due.Nothing (due.Shut c) refl refl)
+out_accepts LastAck c to port flying shut = cond_no accepts (ltb 0 flying) (due.Write c) _ refl (cond_no accepts shut due.Nothing (due.Shut c) refl refl)
+out_accepts Udp c to port flying shut = cond_no accepts (ltb 0 flying) (due.SendTo c port to) due.Nothing refl refl
+out_accepts SynSent c to port flying shut = refl
+out_accepts at c to port flying shut = refl
+
+in_accepts : (at : Status) (c : ConnId) (port room : ℕ) (ended : Bool) → is_fresh at ≡ false → accepts (incoming_in at c port room ended) ≡ false
+in_accepts Established c port room ended h = cond_no accepts (ltb 0 room) (due.Read c) due.Nothing refl refl
+in_accepts FinWait c port room ended h = cond_no accepts ended due.Nothing (due.ReadAway c) refl refl
+in_accepts Listen c port room ended h = cc
+in_accepts Udp c port room ended h = refl
+in_accepts at c port room ended h = refl
+
+linked_call : (call : Due) (flight free : ℕ) → connects call ≡ false → answers_call call flight free Linked ≡ false
+linked_call (due.Connect c to) flight free h = cc
+linked_call call flight free h = refl
+
+accepted_call : (call : Due) (flight free : ℕ) (from : Addr) → accepts call ≡ false → answers_call call flight free (Accepted from) ≡ false
+accepted_call (due.Accept c port) flight free from h = cc
+accepted_call call flight free from h = refl
+
+made_fresh : (starts : Starts) (past : Past) (n : ℕ) (what : LinkEntry) → makes what ≡ true → fits starts past n what ≡ true → is_fresh (status past n) ≡ false → ⊥
+made_fresh starts past n Linked m h old =
+    neither_call starts past n Linked refl
+    (linked_call _ (flight starts past n) (rx_free starts past n) (out_connects (status past n) (connection n (lives past n)) (kept_address past n) (kept_port past n) (flight starts past n) (life past n).shut old))
+    (linked_call _ (flight starts past n) (rx_free starts past n) (in_connects (status past n) (connection n (lives past n)) (kept_port past n) (rx_free starts past n) (life past n).ended)) h
+made_fresh starts past n (Accepted from) m h old =
+    neither_call starts past n (Accepted from) refl
+    (accepted_call _ (flight starts past n) (rx_free starts past n) from (out_accepts (status past n) (connection n (lives past n)) (kept_address past n) (kept_port past n) (flight starts past n) (life past n).shut))
+    (accepted_call _ (flight starts past n) (rx_free starts past n) from (in_accepts (status past n) (connection n (lives past n)) (kept_port past n) (rx_free starts past n) (life past n).ended old)) h
+made_fresh starts past n what m h old = cc
+
+-- A connection is made in the socket's present life alone.
+made_other : (past : Past) (entry : Entry) (n life : ℕ) → (lives past n ≡ life → ⊥) → is_made (entry ∷ past) n life ≡ is_made past n life
+made_other past (Link m what) n life h =
+    ap (λ (b : Bool). b || is_made past n life) (and_right (makes what) (is_of past m n life) (and_right (eqb m n) (eqb (lives past n) life) (ne_eqb (lives past n) life h)))
+made_other past (Bus e a) n life h = refl
+made_other past Rest n life h = refl
+
+unborn_made : (past : Past) (n life : ℕ) → lives past n < life → is_made past n life ≡ false
+unborn_made [] n life h = refl
+unborn_made (entry ∷ past) n other h =
+    let grow = lives_grow (life past n) (cause past n entry) in
+    let differs : lives past n ≡ other → ⊥ = λ (e : lives past n ≡ other). omega (arith, grow, h, e) in
+    made_other past entry n other differs ∙ unborn_made past n other (omega (arith, grow, h))
+
+-- No row leads to UDP but OPEN.
+closes_not_udp : (b : Bool) → is_udp (cond b Closed FinWait) ≡ true → ⊥
+closes_not_udp true h = cc
+closes_not_udp false h = cc
+
+udp_next : (at : Status) (why : Cause) (facts : Facts) → begins why at ≡ false → is_udp (next at why facts) ≡ true → is_udp at ≡ true
+udp_next Udp why facts old h = refl
+udp_next Closed because.OpenTcp facts old h = cc
+udp_next Closed because.OpenUdp facts old h = cc
+udp_next Closed why facts old h = cc
+udp_next FinWait because.Ended facts old h = absurd (closes_not_udp facts.both h)
+udp_next FinWait because.Shut facts old h = absurd (closes_not_udp facts.both h)
+udp_next FinWait why facts old h = cc
+udp_next Init because.Reset facts old h = cc
+udp_next Init why facts old h = cc
+udp_next Listen because.Reset facts old h = cc
+udp_next Listen why facts old h = cc
+udp_next SynSent because.Reset facts old h = cc
+udp_next SynSent why facts old h = cc
+udp_next Established because.Reset facts old h = cc
+udp_next Established why facts old h = cc
+udp_next CloseWait because.Reset facts old h = cc
+udp_next CloseWait why facts old h = cc
+udp_next LastAck because.Reset facts old h = cc
+udp_next LastAck why facts old h = cc
+
+udp_from : (at : Life) (why : Cause) → is_udp (life_after at why).status ≡ true
+    → (((life_after at why).lives ≡ at.lives) × (is_udp at.status ≡ true)) ⊎ ((life_after at why).lives ≡ at.lives + 1)
+udp_from at why =
+    let after = next at.status why (facts_of why at) in
+    cond_both (begins why at.status) (new_life at after) (lives_on at why after)
+    (λ (now : Life). is_udp now.status ≡ true → ((now.lives ≡ at.lives) × (is_udp at.status ≡ true)) ⊎ (now.lives ≡ at.lives + 1))
+    (λ new h. inr refl) (λ old h. inl (refl, udp_next at.status why (facts_of why at) old h))
+
+udp_not_fresh : (at : Status) → is_udp at ≡ true → is_fresh at ≡ false
+udp_not_fresh Udp h = refl
+udp_not_fresh at h = cc
+
+made_step : (m_ of_it : Bool) (before : Bool) → (of_it ≡ true → m_ ≡ true → ⊥) → before ≡ false → ((m_ && of_it) || before) ≡ false
+made_step true true before never h = absurd (never refl refl)
+made_step true false before never h = h
+made_step false of_it before never h = h
+
+-- In UDP no connection was made.
+pub udp_not_made : (starts : Starts) (past : Past) (n : ℕ) → Legal starts past → is_udp (status past n) ≡ true → is_made past n (lives past n) ≡ false
+udp_not_made starts [] n legal h = refl
+udp_not_made starts (entry ∷ past) n legal h =
+    elim (udp_from (life past n) (cause past n entry) h) [
+      | inl (same, udp) ↦ ap (is_made (entry ∷ past) n) same ∙ stays starts past entry n legal udp (udp_not_made starts past n legal.1 udp)
+      | inr begun ↦
+          ap (is_made (entry ∷ past) n) begun
+          ∙ made_other past entry n (lives past n + 1) (λ e. omega (arith, e))
+          ∙ unborn_made past n (lives past n + 1) (omega arith)
+    ]
+  where
+    stays : (starts : Starts) (past : Past) (entry : Entry) (n : ℕ) → Legal starts (entry ∷ past) → is_udp (status past n) ≡ true → is_made past n (lives past n) ≡ false
+        → is_made (entry ∷ past) n (lives past n) ≡ false
+    stays starts past (Link m what) n legal udp before =
+        made_step (makes what) (is_of past m n (lives past n)) (is_made past n (lives past n))
+        (λ of_it m_. made_fresh starts past n what m_ (subst (λ (k : ℕ). fits starts past k what ≡ true) (both_same m n (lives past n) (lives past n) of_it).0 legal.0.1) (udp_not_fresh (status past n) udp))
+        before
+    stays starts past (Bus e a) n legal udp before = before
+    stays starts past Rest n legal udp before = before
+
+-- What is put into the buffer of a young socket is what is supplied.
+not_brought : (what : LinkEntry) → brings what ≡ false → bytes_of what ≡ []
+not_brought (Got bytes) h = cc
+not_brought (Datagram from body) h = cc
+not_brought what h = refl
+
+nothing_put : (at : Status) (free : ℕ) (what : LinkEntry) → brings what ≡ false → put_by at free what ≡ []
+nothing_put at free (Got bytes) h = cc
+nothing_put at free (Datagram from body) h = cc
+nothing_put Established free what h = refl
+nothing_put Udp free what h = refl
+nothing_put at free what h = refl
+
+put_got : (at : Status) (free : ℕ) (bytes : List ℕ) → is_established at ≡ true → put_by at free (Got bytes) ≡ bytes
+put_got Established free bytes h = refl
+put_got at free bytes h = cc
+
+put_young : (starts : Starts) (past : Past) (n free : ℕ) (what : LinkEntry) → is_young (status past n) ≡ true → fits starts past n what ≡ true → put_by (status past n) free what ≡ bytes_of what
+put_young starts past n free what young may =
+    elim (cases_Bool (brings what)) [
+      | inr none ↦ nothing_put (status past n) free what none ∙ sym (not_brought what none)
+      | inl some ↦ elim (young_either (status past n) young) [
+        | inl on ↦ established starts past n free what on may some
+        | inr fresh ↦ absurd (fresh_brings starts past n what fresh some may)
+      ]
+    ]
+  where
+    established : (starts : Starts) (past : Past) (n free : ℕ) (what : LinkEntry) → is_established (status past n) ≡ true → fits starts past n what ≡ true → brings what ≡ true
+        → put_by (status past n) free what ≡ bytes_of what
+    established starts past n free (Got bytes) on may some = put_got (status past n) free bytes on
+    established starts past n free (Datagram from body) on may some = absurd (established_datagram starts past n from body on may)
+    established starts past n free what on may some = cc
+
+both_get : (of_it : Bool) (before before2 more more2 : List ℕ) → before ≡ before2 → (of_it ≡ true → more2 ≡ more) → cond of_it (before ++ more) before ≡ cond of_it (before2 ++ more2) before2
+both_get true before before2 more more2 e same = ap (λ (l : List ℕ). l ++ more) e ∙ ap (λ (l : List ℕ). before2 ++ l) (sym (same refl))
+both_get false before before2 more more2 e same = e
 
 same_step : (starts : Starts) (past : Past) (entry : Entry) (n : ℕ) → Legal starts (entry ∷ past) → is_young (status past n) ≡ true
-    → supplied past n (lives past n) ≡ got past n (lives past n) → supplied (entry ∷ past) n (lives past n) ≡ got (entry ∷ past) n (lives past n)
+    → supplied past n (lives past n) ≡ got starts past n (lives past n) → supplied (entry ∷ past) n (lives past n) ≡ got starts (entry ∷ past) n (lives past n)
 same_step starts past (Link m what) n legal young e =
-    both_get (is_of past m n (lives past n)) (is_established (status past n)) _ _ (bytes_of what) e
-    (link_way starts past m n what legal.0.1 (young_either (status past n) young))
+    both_get (is_of past m n (lives past n)) _ _ (bytes_of what) _ e
+    (λ of_it. put_young starts past n (free_behind starts past n (lives past n) (length (got starts past n (lives past n)))) what young
+    (subst (λ (k : ℕ). fits starts past k what ≡ true) (both_same m n (lives past n) (lives past n) of_it).0 legal.0.1))
 same_step starts past (Bus e a) n legal young same = same
 same_step starts past Rest n legal young same = same
 
 -- In a life that has not left ESTABLISHED all that was supplied was received.
-same_young : (starts : Starts) (past : Past) (n : ℕ) → Legal starts past → is_young (status past n) ≡ true → supplied past n (lives past n) ≡ got past n (lives past n)
+pub same_young : (starts : Starts) (past : Past) (n : ℕ) → Legal starts past → is_young (status past n) ≡ true → supplied past n (lives past n) ≡ got starts past n (lives past n)
 same_young starts [] n legal h = refl
 same_young starts (entry ∷ past) n legal h =
     elim (young_from (life past n) (cause past n entry) h) [
       | inl (same, young) ↦
           ap (supplied (entry ∷ past) n) same
           ∙ same_step starts past entry n legal young (same_young starts past n legal.1 young)
-          ∙ ap (got (entry ∷ past) n) (sym same)
+          ∙ ap (got starts (entry ∷ past) n) (sym same)
       | inr begun ↦
           ap (supplied (entry ∷ past) n) begun
           ∙ supplied_other past entry n (lives past n + 1) (λ e. omega (arith, e))
           ∙ unborn_supplied past n (lives past n + 1) (omega arith)
-          ∙ sym (unborn_got past n (lives past n + 1) (omega arith))
-          ∙ sym (got_other past entry n (lives past n + 1) (λ e. omega (arith, e)))
-          ∙ ap (got (entry ∷ past) n) (sym begun)
+          ∙ sym (unborn_got starts past n (lives past n + 1) (omega arith))
+          ∙ sym (got_other starts past entry n (lives past n + 1) (λ e. omega (arith, e)))
+          ∙ ap (got starts (entry ∷ past) n) (sym begun)
     ]
 
 -- The first list is a front of the second.
@@ -168,18 +384,72 @@ established_young : (at : Status) → is_established at ≡ true → is_young at
 established_young Established h = refl
 established_young at h = cc
 
-front_step : (of_it on : Bool) (part whole bytes : List ℕ) → (of_it ≡ true → on ≡ true → whole ≡ part) → IsFront part whole
-    → IsFront (cond (of_it && on) (part ++ bytes) part) (cond of_it (whole ++ bytes) whole)
-front_step true true part whole bytes same h = ([], ap (λ (l : List ℕ). l ++ bytes) (same refl refl) ∙ sym (append-nil (part ++ bytes)))
-front_step true false part whole bytes same (more, e) = (more ++ bytes, ap (λ (l : List ℕ). l ++ bytes) e ∙ append_assoc part more bytes)
-front_step false on part whole bytes same h = h
+fresh_young : (at : Status) → is_fresh at ≡ true → is_young at ≡ true
+fresh_young Init h = refl
+fresh_young Listen h = refl
+fresh_young SynSent h = refl
+fresh_young at h = cc
 
-pub front : (starts : Starts) (past : Past) (n life : ℕ) → Legal starts past → (more : List ℕ) × (supplied past n life ≡ got past n life ++ more)
-front starts [] n life legal = ([], refl)
-front starts (Link m what ∷ past) n life legal =
-    front_step (is_of past m n life) (is_established (status past n)) (got past n life) (supplied past n life) (bytes_of what)
-    (λ of_it on. subst (λ (l : ℕ). supplied past n l ≡ got past n l) (both_same m n (lives past n) life of_it).1
-    (same_young starts past n legal.1 (established_young (status past n) on)))
-    (front starts past n life legal.1)
-front starts (Bus e a ∷ past) n life legal = front starts past n life legal.1
-front starts (Rest ∷ past) n life legal = front starts past n life legal.1
+-- Outside of UDP a link event puts nothing, or all that it supplies, and that in ESTABLISHED.
+put_either : (at : Status) (free : ℕ) (what : LinkEntry) → is_udp at ≡ false → (put_by at free what ≡ []) ⊎ ((is_established at ≡ true) × (put_by at free what ≡ bytes_of what))
+put_either Established free (Got bytes) h = inr (refl, refl)
+put_either Established free what h = inl refl
+put_either Udp free what h = cc
+put_either at free what h = inl refl
+
+front_step : (of_it : Bool) (part whole bytes put : List ℕ) → (of_it ≡ true → (put ≡ []) ⊎ ((whole ≡ part) × (put ≡ bytes))) → IsFront part whole
+    → IsFront (cond of_it (part ++ put) part) (cond of_it (whole ++ bytes) whole)
+front_step false part whole bytes put way h = h
+front_step true part whole bytes put way (more, e) =
+    elim (way refl) [
+      | inl none ↦ (more ++ bytes, ap (λ (l : List ℕ). l ++ bytes) e ∙ append_assoc part more bytes ∙ ap (λ (l : List ℕ). l ++ (more ++ bytes)) (sym (append-nil part)) ∙ ap (λ (l : List ℕ). (part ++ l) ++ (more ++ bytes)) (sym none))
+      | inr (same, all) ↦ ([], ap (λ (l : List ℕ). l ++ bytes) same ∙ ap (λ (l : List ℕ). part ++ l) (sym all) ∙ sym (append-nil (part ++ put)))
+    ]
+
+-- What was made before, or is made now.
+made_before : (m_ of_it before : Bool) → ((m_ && of_it) || before) ≡ true → (before ≡ true) ⊎ ((m_ ≡ true) × (of_it ≡ true))
+made_before m_ of_it true h = inl refl
+made_before true true false h = inr (refl, refl)
+made_before true false false h = cc
+made_before false of_it false h = cc
+
+makes_brings : (what : LinkEntry) → makes what ≡ true → brings what ≡ false
+makes_brings (Got bytes) h = cc
+makes_brings (Datagram from body) h = cc
+makes_brings what h = refl
+
+pub front : (starts : Starts) (past : Past) (n life : ℕ) → Legal starts past → is_made past n life ≡ true → (more : List ℕ) × (supplied past n life ≡ got starts past n life ++ more)
+front starts [] n life legal made = cc
+front starts (Link m what ∷ past) n life legal made =
+    let free = free_behind starts past n life (length (got starts past n life)) in
+    elim (made_before (makes what) (is_of past m n life) (is_made past n life) made) [
+      | inl before ↦
+          front_step (is_of past m n life) (got starts past n life) (supplied past n life) (bytes_of what) (put_by (status past n) free what)
+          (λ of_it. way starts past m n life what legal before of_it free) (front starts past n life legal.1 before)
+      | inr (makes_it, of_it) ↦
+          front_step (is_of past m n life) (got starts past n life) (supplied past n life) (bytes_of what) (put_by (status past n) free what)
+          (λ here. inl (nothing_put (status past n) free what (makes_brings what makes_it))) (begun starts past m n life what legal makes_it of_it)
+    ]
+  where
+    way : (starts : Starts) (past : Past) (m n life : ℕ) (what : LinkEntry) → Legal starts (Link m what ∷ past) → is_made past n life ≡ true → is_of past m n life ≡ true → (free : ℕ)
+        → (put_by (status past n) free what ≡ []) ⊎ ((supplied past n life ≡ got starts past n life) × (put_by (status past n) free what ≡ bytes_of what))
+    way starts past m n life what legal before of_it free =
+        let here = (both_same m n (lives past n) life of_it).1 in
+        elim (cases_Bool (is_udp (status past n))) [
+          | inl udp ↦ absurd (false≢true (sym (udp_not_made starts past n legal.1 udp) ∙ subst (λ (l : ℕ). is_made past n l ≡ true) (sym here) before))
+          | inr other ↦ elim (put_either (status past n) free what other) [
+            | inl none ↦ inl none
+            | inr (on, all) ↦ inr (subst (λ (l : ℕ). supplied past n l ≡ got starts past n l) here (same_young starts past n legal.1 (established_young (status past n) on)), all)
+          ]
+        ]
+
+    begun : (starts : Starts) (past : Past) (m n life : ℕ) (what : LinkEntry) → Legal starts (Link m what ∷ past) → makes what ≡ true → is_of past m n life ≡ true
+        → IsFront (got starts past n life) (supplied past n life)
+    begun starts past m n life what legal makes_it of_it =
+        let here = both_same m n (lives past n) life of_it in
+        elim (cases_Bool (is_fresh (status past n))) [
+          | inl fresh ↦ ([], subst (λ (l : ℕ). supplied past n l ≡ got starts past n l) here.1 (same_young starts past n legal.1 (fresh_young (status past n) fresh)) ∙ sym (append-nil (got starts past n life)))
+          | inr old ↦ absurd (made_fresh starts past n what makes_it (subst (λ (k : ℕ). fits starts past k what ≡ true) here.0 legal.0.1) old)
+        ]
+front starts (Bus e a ∷ past) n life legal made = front starts past n life legal.1 made
+front starts (Rest ∷ past) n life legal made = front starts past n life legal.1 made

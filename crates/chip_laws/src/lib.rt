@@ -1,7 +1,7 @@
-//! More of the chip's definitions: worked rows of a socket's life, and a law of the bytes that a link supplies.
+//! Laws of the chip's definitions that no other crate cites.
 //!
-//! They stand above `chip_sheet`, so that the crates on it need not be proved anew where a row is added.
+//! They stand above `chip_sheet`, so that the crates on it need not be proved anew where a law is added. Worked rows stand in
+//! `chip_rows`.
 #![tactic(auto)]
 
-pub mod rows;
 pub mod supplied;

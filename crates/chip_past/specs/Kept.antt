@@ -1,5 +1,8 @@
 -- What is kept of a thing that happened, as an entry of the definitions.
-use Rattle.chip_sheet.specs.Past.{Entry, Bus, Link, LinkEntry, Linked, Accepted, Refused, TimedOut, Took, Got, Datagram, Ended, Shut, Failed, Dropped}
+use Rattle.chip_sheet.specs.declared.event.Entry.{Entry}
+use Rattle.chip_sheet.specs.declared.event.Entry.TheVariants.{Bus, Link}
+use Rattle.chip_sheet.specs.declared.event.LinkEntry.{LinkEntry}
+use Rattle.chip_sheet.specs.declared.event.LinkEntry.TheVariants.{Linked, Accepted, Refused, TimedOut, Took, Got, Datagram, Ended, Shut, Failed, Dropped}
 use Rattle.chip_past.specs.declared.past.KeptLink.{KeptLink}
 use Rattle.chip_past.specs.declared.past.KeptLink.TheVariants as link
 use Rattle.chip_past.specs.declared.past.Kept.{Kept}

@@ -19,11 +19,31 @@ pub fn registers_of(n: u8) -> u16
     4 * u16::from(n) + 1
 }
 
-/// The protocol in the mode register of socket n (datasheet, 4.2 Sn_MR).
-pub fn protocol(past: &Past, n: u8) -> u8
-    ensures { result ≡ sheet.protocol past.now n }
+/// What the mode register of socket n holds (datasheet, 4.2 Sn_MR).
+pub fn mode(past: &Past, n: u8) -> u8
+    ensures { result ≡ sheet.mode past.now n }
 {
-    last_written(past, registers_of(n), 0x00).unwrap_or(0x00) % 16
+    last_written(past, registers_of(n), 0x00).unwrap_or(0x00)
+}
+
+/// The protocol in bits 3..0 of the mode register.
+pub fn protocol_of(mode: u8) -> u8
+    ensures { result ≡ sheet.protocol_of mode }
+{
+    mode % 16
+}
+
+// What OPEN asks of a socket with this protocol.
+fn opening(protocol: u8) -> Cause
+    ensures { result ≡ sheet.opening protocol }
+{
+    if protocol == 1 {
+        Cause::OpenTcp
+    } else if protocol == 2 {
+        Cause::OpenUdp
+    } else {
+        Cause::Nothing
+    }
 }
 
 // What a command byte asks of socket n (datasheet, 4.2 Sn_CR). The protocol is looked at for OPEN alone.
@@ -31,13 +51,7 @@ fn command(past: &Past, n: u8, v: u8) -> Cause
     ensures { result ≡ sheet.command (sheet.protocol past.now n) v }
 {
     match v {
-        0x01 => {
-            if protocol(past, n) == 1 {
-                Cause::Open
-            } else {
-                Cause::Nothing
-            }
-        }
+        0x01 => opening(protocol_of(mode(past, n))),
         0x02 => Cause::Listen,
         0x04 => Cause::Connect,
         0x08 => Cause::Disconnect,
@@ -77,7 +91,7 @@ fn happening(what: &KeptLink) -> Cause
         KeptLink::TimedOut => Cause::TimedOut,
         KeptLink::Took(count) => Cause::Took(*count),
         KeptLink::Got(_) => Cause::Got,
-        KeptLink::Datagram(_, _) => Cause::Nothing,
+        KeptLink::Datagram(_, body) => Cause::Datagram(body.len() as u64),
         KeptLink::Ended => Cause::Ended,
         KeptLink::Shut => Cause::Shut,
         KeptLink::Failed => Cause::Failed,
@@ -104,11 +118,12 @@ pub fn cause(past: &Past, n: u8, kept: &Kept, made: Access) -> Cause
 
 // The table of socket life: the next status, where a line of it fits. `both` says that the other of Ended and Shut came before.
 fn row(status: Status, why: Cause, both: bool) -> Option<Status>
-    ensures { result ≡ sheet.row status why both }
+    ensures { result ≡ sheet.row status why (record { both = both }) }
 {
     match (status, why) {
         (_, Cause::Reset) => Some(Status::Closed),
-        (Status::Closed, Cause::Open) => Some(Status::Init),
+        (Status::Closed, Cause::OpenTcp) => Some(Status::Init),
+        (Status::Closed, Cause::OpenUdp) => Some(Status::Udp),
         (Status::Init, Cause::Listen) => Some(Status::Listen),
         (Status::Init, Cause::Connect) => Some(Status::SynSent),
         (Status::Listen, Cause::Accepted) => Some(Status::Established),
@@ -134,16 +149,19 @@ fn row(status: Status, why: Cause, both: bool) -> Option<Status>
 
 // The status after something happened.
 fn next(status: Status, why: Cause, both: bool) -> Status
-    ensures { result ≡ sheet.next status why both }
+    ensures { result ≡ sheet.next status why (record { both = both }) }
 {
     row(status, why, both).unwrap_or(status)
 }
 
-// Whether a new life begins: OPEN is accepted.
-fn begins(why: Cause, status: Status) -> bool
+/// Whether a new life begins: OPEN is accepted.
+pub fn begins(why: Cause, status: Status) -> bool
     ensures { result ≡ sheet.begins why status }
 {
-    matches!((why, status), (Cause::Open, Status::Closed))
+    matches!(
+        (why, status),
+        (Cause::OpenTcp | Cause::OpenUdp, Status::Closed)
+    )
 }
 
 /// Whether the status is CLOSED.
@@ -153,11 +171,18 @@ pub fn is_closed(status: Status) -> bool
     matches!(status, Status::Closed)
 }
 
-// Whether the link is asked for a connection in this status.
+/// Whether the status is UDP.
+pub fn is_udp(status: Status) -> bool
+    ensures { result ≡ sheet.is_udp status }
+{
+    matches!(status, Status::Udp)
+}
+
+// Whether the link is asked for a connection or for datagrams in this status.
 fn asks_link(status: Status) -> bool
     ensures { result ≡ sheet.asks_link status }
 {
-    matches!(status, Status::Listen | Status::SynSent)
+    matches!(status, Status::Listen | Status::SynSent | Status::Udp)
 }
 
 fn is_end(why: Cause) -> bool
@@ -246,17 +271,17 @@ fn lives_on(life: Life, why: Cause, after: Status) -> Life
     }
 }
 
-// A new life, in INIT. A reset restores nothing of this: the numbers of lives go on (this profile's own).
-fn new_life(life: Life) -> Result<Life, AllocError>
-    ensures { IfOk result (λ new. sheet_life new ≡ sheet.new_life (sheet_life life)) }
+// A new life, in the status that OPEN leads to. A reset restores nothing of this: the numbers of lives go on (this profile's own).
+fn new_life(life: Life, after: Status) -> Result<Life, AllocError>
+    ensures { IfOk result (λ new. sheet_life new ≡ sheet.new_life (sheet_life life) after) }
 {
     let lives = life.lives.checked_add(1).ok_or(AllocError)?;
     Ok(Life {
-        status: Status::Init,
+        status: after,
         lives,
         ended: false,
         shut: false,
-        asked: false,
+        asked: asks_link(after),
         old: life.old,
     })
 }
@@ -264,10 +289,11 @@ fn new_life(life: Life) -> Result<Life, AllocError>
 fn life_after(life: Life, why: Cause) -> Result<Life, AllocError>
     ensures { IfOk result (λ new. sheet_life new ≡ sheet.life_after (sheet_life life) why) }
 {
+    let after = next(life.status, why, other_came(why, life));
     if begins(why, life.status) {
-        new_life(life)
+        new_life(life, after)
     } else {
-        Ok(lives_on(life, why, next(life.status, why, other_came(why, life))))
+        Ok(lives_on(life, why, after))
     }
 }
 
@@ -323,5 +349,6 @@ pub fn status_code(status: Status) -> u8
         Status::FinWait => 0x18,
         Status::CloseWait => 0x1C,
         Status::LastAck => 0x1D,
+        Status::Udp => 0x22,
     }
 }

@@ -1,5 +1,5 @@
 // What one life of a socket sent and received.
-ghost use Rattle.std.specs.Prelude.{◌≡◌, ◌&&◌, ◌+◌, ◌<◌, ℕ, List, Option, IfOk, OnOk, length, unwrap_or, if◌then◌else◌};
+ghost use Rattle.std.specs.Prelude.{◌≡◌, ◌+◌, ◌++◌, ◌<◌, ℕ, List, Option, IfOk, OnOk, length, unwrap_or, if◌then◌else◌};
 ghost use Rattle.chip_sheet.specs.Frames.{access_of};
 ghost use Rattle.chip_sheet.specs.Streams as sheet;
 ghost use Rattle.chip_sheet.specs.declared.socket.Cause.TheVariants as because;
@@ -7,11 +7,12 @@ ghost use Rattle.chip_sheet.specs.Life as socket_life;
 ghost use Rattle.chip_past.specs.Kept.{kept_link, kept_entry};
 ghost use Rattle.chip_past.specs.Begun.{sheet_starts};
 
-use crate::life::{cause, is_closed, lives, registers_of, status};
+use crate::life::{begins, cause, lives, registers_of, status};
 use crate::past::{Kept, KeptLink, Newest, Past};
 use crate::positions::{ahead, byte_of, pair};
 use crate::registers::{is_reset, written_by};
-use crate::sizes::{TX_SIZES, resizes, tx_size};
+use crate::sizes::{TX_SIZES, resizes, rx_size, tx_size};
+use chip_sheet::event::Addr;
 use chip_sheet::phase::Access;
 use chip_sheet::socket::{Cause, Status};
 use std::alloc::{AllocError, Global};
@@ -40,7 +41,10 @@ fn is_of(past: &Past, m: u8, n: u8, life: u64) -> Result<bool, AllocError>
 pub fn sends(status: Status) -> bool
     ensures { result ≡ sheet.sends status }
 {
-    matches!(status, Status::Established | Status::CloseWait)
+    matches!(
+        status,
+        Status::Established | Status::CloseWait | Status::Udp
+    )
 }
 
 /// Whether RECV releases bytes in this status; in no other a window holds any (this profile's own).
@@ -49,15 +53,8 @@ pub fn is_open(status: Status) -> bool
 {
     matches!(
         status,
-        Status::Established | Status::FinWait | Status::CloseWait | Status::LastAck
+        Status::Established | Status::FinWait | Status::CloseWait | Status::LastAck | Status::Udp
     )
-}
-
-/// Whether the status is ESTABLISHED.
-pub fn is_established(status: Status) -> bool
-    ensures { result ≡ sheet.is_established status }
-{
-    matches!(status, Status::Established)
 }
 
 // The byte that an access leaves in the TX buffer of socket n at the place of an address, if it sets that place: a reset, and a
@@ -177,10 +174,13 @@ fn pointer_set(past: &Past, n: u8, why: Cause, start: u8) -> Result<Option<u8>, 
     match why {
         Cause::Reset => Ok(Some(0)),
         Cause::Linked | Cause::Accepted => Ok(Some(start)),
-        Cause::Open => match status(past, n)? {
-            Status::Closed => Ok(Some(0)),
-            _ => Ok(None),
-        },
+        Cause::OpenTcp | Cause::OpenUdp => {
+            if begins(why, status(past, n)?) {
+                Ok(Some(0))
+            } else {
+                Ok(None)
+            }
+        }
         _ => Ok(None),
     }
 }
@@ -376,83 +376,6 @@ pub fn taken(past: &Past, n: u8, life: u64) -> Result<u64, AllocError>
     }
 }
 
-// The bytes that a link event supplies.
-fn bytes_of(what: &KeptLink) -> &[u8]
-    ensures { result.now ≡ sheet.bytes_of (kept_link what.now) }
-{
-    match what {
-        KeptLink::Got(bytes) => bytes.as_slice(),
-        KeptLink::Linked
-        | KeptLink::Accepted(_)
-        | KeptLink::Refused
-        | KeptLink::TimedOut
-        | KeptLink::Took(_) => &[],
-        KeptLink::Datagram(_, _)
-        | KeptLink::Ended
-        | KeptLink::Shut
-        | KeptLink::Failed
-        | KeptLink::Dropped => &[],
-    }
-}
-
-// Whether the bytes of a link event of socket m are received in this life of socket n: what came after DISCON is thrown away.
-fn is_received(past: &Past, m: u8, n: u8, life: u64) -> Result<bool, AllocError>
-    ensures { IfOk result (λ is. is ≡ (sheet.is_of past.now m n life && sheet.is_established (socket_life.status past.now n))) }
-{
-    if is_of(past, m, n, life)? {
-        Ok(is_established(status(past, n)?))
-    } else {
-        Ok(false)
-    }
-}
-
-/// The bytes that were received in a life, those that came in ESTABLISHED.
-///
-/// # Errors
-///
-/// Want of memory.
-pub fn got(alloc: Global, past: &Past, n: u8, life: u64) -> Result<Vec<u8>, AllocError>
-    ensures { IfOk result (λ bytes. bytes.items ≡ sheet.got past.now n life) }
-{
-    match &past.newest {
-        Newest::Nothing => Ok(Vec::new(alloc)),
-        Newest::Happened(Kept::Link(m, what), _, before) => {
-            let mut bytes = got(alloc, before, n, life)?;
-            if is_received(before, *m, n, life)? {
-                bytes.extend_from_slice(bytes_of(what))?;
-                Ok(bytes)
-            } else {
-                Ok(bytes)
-            }
-        }
-        Newest::Happened(Kept::Bus(_, _), _, before) => got(alloc, before, n, life),
-    }
-}
-
-/// How many bytes were received in a life.
-///
-/// # Errors
-///
-/// Want of memory.
-pub fn got_length(past: &Past, n: u8, life: u64) -> Result<u64, AllocError>
-    ensures { IfOk result (λ count. count ≡ length (sheet.got past.now n life)) }
-{
-    match &past.newest {
-        Newest::Nothing => Ok(0),
-        Newest::Happened(Kept::Link(m, what), _, before) => {
-            let count = got_length(before, n, life)?;
-            if is_received(before, *m, n, life)? {
-                count
-                    .checked_add(bytes_of(what).len() as u64)
-                    .ok_or(AllocError)
-            } else {
-                Ok(count)
-            }
-        }
-        Newest::Happened(Kept::Bus(_, _), _, before) => got_length(before, n, life),
-    }
-}
-
 /// How far RECV goes, where so many bytes were released before in the socket's present life.
 ///
 /// # Errors
@@ -502,5 +425,130 @@ pub fn released(starts: Starts, past: &Past, n: u8, life: u64) -> Result<u64, Al
                 _ => Ok(count),
             }
         }
+    }
+}
+
+// The bytes that stand before the body of a datagram: the sender's address and port, and how many bytes the body has.
+fn header(from: &Addr, count: u64) -> [u8; 8]
+    ensures { result ≡ sheet.header from.now count }
+{
+    let port = u64::from(from.port);
+    [
+        from.ip[0],
+        from.ip[1],
+        from.ip[2],
+        from.ip[3],
+        byte_of(0, port),
+        byte_of(1, port),
+        byte_of(0, count),
+        byte_of(1, count),
+    ]
+}
+
+/// Whether a datagram of so many bytes fits where so many are free.
+pub fn has_place(count: u64, free: u64) -> bool
+    ensures { result ≡ sheet.has_place count free }
+{
+    8 <= free && count <= free - 8
+}
+
+// Adds the bytes that a link event puts into the RX buffer of a socket in a status, where so many are free of it.
+fn put(bytes: &mut Vec<u8>, status: Status, free: u64, what: &KeptLink) -> Result<(), AllocError>
+    ensures { OnOk result (bytes.new.items ≡ bytes.old.items ++ sheet.put_by status free (kept_link what.now)) }
+{
+    match (status, what) {
+        (Status::Established, KeptLink::Got(more)) => bytes.extend_from_slice(more),
+        (Status::Udp, KeptLink::Datagram(from, body)) => {
+            if has_place(body.len() as u64, free) {
+                bytes.extend_from_slice(&header(from, body.len() as u64))?;
+                bytes.extend_from_slice(body)
+            } else {
+                Ok(())
+            }
+        }
+        _ => Ok(()),
+    }
+}
+
+// How many bytes a link event puts into the RX buffer of a socket in a status, where so many are free of it.
+fn put_length(status: Status, free: u64, what: &KeptLink) -> u64
+    ensures length { result ≡ length (sheet.put_by status free (kept_link what.now)) }
+{
+    match (status, what) {
+        (Status::Established, KeptLink::Got(more)) => more.len() as u64,
+        (Status::Udp, KeptLink::Datagram(_, body)) => {
+            let count = body.len() as u64;
+            if has_place(count, free) { 8 + count } else { 0 }
+        }
+        _ => 0,
+    }
+}
+
+// How many bytes are free of the RX buffer for a life of which so many were received.
+fn free_behind(
+    starts: Starts,
+    past: &Past,
+    n: u8,
+    life: u64,
+    received: u64,
+) -> Result<u64, AllocError>
+    ensures { IfOk result (λ free. free ≡ sheet.free_behind (sheet_starts starts) past.now n life received) }
+{
+    let gone = released(starts, past, n, life)?;
+    Ok(u64::from(rx_size(past, n)).saturating_sub(received.saturating_sub(gone)))
+}
+
+/// The bytes that were received in a life: what was put into the RX buffer, in order.
+///
+/// # Errors
+///
+/// Want of memory.
+pub fn got(
+    alloc: Global,
+    starts: Starts,
+    past: &Past,
+    n: u8,
+    life: u64,
+) -> Result<Vec<u8>, AllocError>
+    ensures { IfOk result (λ bytes. bytes.items ≡ sheet.got (sheet_starts starts) past.now n life) }
+{
+    match &past.newest {
+        Newest::Nothing => Ok(Vec::new(alloc)),
+        Newest::Happened(Kept::Link(m, what), _, before) => {
+            let mut bytes = got(alloc, starts, before, n, life)?;
+            if is_of(before, *m, n, life)? {
+                let free = free_behind(starts, before, n, life, bytes.len() as u64)?;
+                put(&mut bytes, status(before, n)?, free, what)?;
+                Ok(bytes)
+            } else {
+                Ok(bytes)
+            }
+        }
+        Newest::Happened(Kept::Bus(_, _), _, before) => got(alloc, starts, before, n, life),
+    }
+}
+
+/// How many bytes were received in a life.
+///
+/// # Errors
+///
+/// Want of memory.
+pub fn got_length(starts: Starts, past: &Past, n: u8, life: u64) -> Result<u64, AllocError>
+    ensures { IfOk result (λ count. count ≡ length (sheet.got (sheet_starts starts) past.now n life)) }
+{
+    match &past.newest {
+        Newest::Nothing => Ok(0),
+        Newest::Happened(Kept::Link(m, what), _, before) => {
+            let count = got_length(starts, before, n, life)?;
+            if is_of(before, *m, n, life)? {
+                let free = free_behind(starts, before, n, life, count)?;
+                count
+                    .checked_add(put_length(status(before, n)?, free, what))
+                    .ok_or(AllocError)
+            } else {
+                Ok(count)
+            }
+        }
+        Newest::Happened(Kept::Bus(_, _), _, before) => got_length(starts, before, n, life),
     }
 }

@@ -1,4 +1,4 @@
 pub mod SocketPlaces
-pub mod Deeds
+pub mod BlockAccesses
 pub mod History
 pub mod Plainly

@@ -1,9 +1,9 @@
 -- What the plain chip does with an event of the bus.
 use Rattle.std.specs.Prelude.{◌≡◌, ◌⊎◌, Some, None, ◌∷◌}
-use Rattle.chip_sheet.specs.declared.event.BusEvent.{BusEvent}
-use Rattle.chip_sheet.specs.declared.event.BusAnswer.{BusAnswer}
+use Rattle.board_bus.specs.declared.event.BusEvent.{BusEvent}
+use Rattle.board_bus.specs.declared.event.BusAnswer.{BusAnswer}
 use Rattle.chip_sheet.specs.declared.stop.ChipStop.{ChipStop}
-use Rattle.chip_sheet.specs.Past.{Bus}
+use Rattle.chip_sheet.specs.declared.event.Entry.TheVariants.{Bus}
 use Rattle.chip_sheet.specs.Answers.{answer}
 use Rattle.chip_sheet.specs.Stops.{stop}
 use Rattle.chip_plain.specs.History.{History}

@@ -2,7 +2,8 @@
 ghost use Rattle.std.specs.Prelude.{◌≡◌, ◌<◌, ◌∷◌, [], None, true, is_ok, length, IfErr, IfOk, if◌then◌else◌};
 ghost use Rattle.chip_sheet.specs.Frames as frames;
 ghost use Rattle.chip_sheet.specs.LinkCalls as calls;
-ghost use Rattle.chip_sheet.specs.Past.{Link, link_entry};
+ghost use Rattle.chip_sheet.specs.declared.event.Entry.TheVariants.{Link};
+ghost use Rattle.chip_sheet.specs.Past.{link_entry};
 ghost use Rattle.chip_plain.specs.Plainly.{Answered, Refused};
 ghost use Rattle.chip_plain.specs.declared.chip.PlainEnd.TheVariants.{NoMemory};
 

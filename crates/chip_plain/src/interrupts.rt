@@ -1,21 +1,22 @@
 // Interrupts (W5500 datasheet, 4.2 Sn_IR and Sn_IMR, 4.1 SIR and SIMR). The moments at which a bit rises are this profile's own.
 ghost use Rattle.std.specs.Prelude.{◌≡◌, ◌&&◌, ◌==◌, ◌+◌, ◌*◌, ◌<◌, ◌≤◌, ◌∷◌, IfOk, length, if◌then◌else◌};
+ghost use Rattle.chip_sheet.specs.Bits.{has_bit};
 ghost use Rattle.chip_sheet.specs.Frames.{access_of};
 ghost use Rattle.chip_sheet.specs.Interrupts as sheet;
 ghost use Rattle.chip_sheet.specs.Life as socket_life;
-ghost use Rattle.chip_sheet.specs.Past.{Entry};
+ghost use Rattle.chip_sheet.specs.declared.event.Entry.{Entry};
 ghost use Rattle.chip_sheet.specs.Positions.{has_between};
 ghost use Rattle.chip_sheet.specs.Streams as streams;
 ghost use Rattle.chip_past.specs.Begun.{sheet_starts};
 ghost use Rattle.chip_past.specs.Kept.{kept_entry};
 
-use crate::windows::unread;
-use chip_past::life::{cause, lives, registers_of, status};
+use crate::windows::{rx_free, unread};
+use chip_past::life::{cause, is_udp, lives, registers_of, status};
 use chip_past::past::{Kept, Newest, Past};
 use chip_past::positions::has_between;
 use chip_past::registers::{is_reset, last_written};
 use chip_past::streams::{
-    Starts, ends, is_established, is_open, range_length, sends, sent_length, taken,
+    Starts, ends, has_place, is_open, range_length, sends, sent_length, taken,
 };
 use chip_sheet::phase::Access;
 use chip_sheet::socket::{Cause, Interrupt, Status};
@@ -48,7 +49,7 @@ fn bit_value(bit: Interrupt) -> u8
 // Whether a byte has the bit of this value.
 fn has_bit(byte: u8, value: u8) -> bool
     requires { 0 < value }
-    ensures { result ≡ sheet.has_bit byte value }
+    ensures { result ≡ has_bit byte value }
 {
     byte / value % 2 == 1
 }
@@ -118,7 +119,14 @@ fn raised_by_bytes(
         is ≡ sheet.raised_by_bytes (sheet_starts starts) past.now n entry why bit (socket_life.status past.now n)) }
 {
     match (why, bit) {
-        (Cause::Got, Interrupt::Received) => Ok(is_established(status(past, n)?)),
+        (Cause::Got, Interrupt::Received) => Ok(matches!(status(past, n)?, Status::Established)),
+        (Cause::Datagram(count), Interrupt::Received) => {
+            if is_udp(status(past, n)?) {
+                Ok(has_place(count, rx_free(starts, past, n)?))
+            } else {
+                Ok(false)
+            }
+        }
         (Cause::Receive, Interrupt::Received) => {
             if is_open(status(past, n)?) {
                 Ok(0 < unread(starts, now, n)?)
@@ -292,7 +300,7 @@ fn asked(alloc: Global, starts: Starts, past: &Past, n: u8, value: u8) -> Result
 ///
 /// Want of memory.
 pub(crate) fn sir(alloc: Global, starts: Starts, past: &Past) -> Result<u8, AllocError>
-    ensures { IfOk result (λ byte. byte ≡ sheet.sir (sheet_starts starts) past.now) }
+    ensures { IfOk result (λ byte. byte ≡ sheet.sir_register (sheet_starts starts) past.now) }
 {
     let a = asked(alloc, starts, past, 0, 1)?;
     let b = asked(alloc, starts, past, 1, 2)?;
@@ -315,7 +323,7 @@ fn enabled(
     value: u8,
 ) -> Result<bool, AllocError>
     requires { 0 < value }
-    ensures { IfOk result (λ is. is ≡ (sheet.has_bit simr value && sheet.asks (sheet_starts starts) past.now n)) }
+    ensures { IfOk result (λ is. is ≡ (has_bit simr value && sheet.asks (sheet_starts starts) past.now n)) }
 {
     if has_bit(simr, value) {
         asks(alloc, starts, past, n)

@@ -1,7 +1,9 @@
 // Which link call is due, and which link events fit (this profile's own).
 ghost use Rattle.std.specs.Prelude.{◌≡◌, ◌<◌, IfOk};
+ghost use Rattle.chip_sheet.specs.Life as socket_life;
 ghost use Rattle.chip_sheet.specs.LinkCalls as sheet;
 ghost use Rattle.chip_sheet.specs.Past.{link_entry};
+ghost use Rattle.chip_sheet.specs.Peers as peers;
 ghost use Rattle.chip_past.specs.Begun.{sheet_starts};
 ghost use Rattle.chip_past.specs.Lives.{sheet_life};
 
@@ -21,7 +23,7 @@ const MOST_READ: u64 = 1472;
 
 // What Sn_DIPR and Sn_DPORT hold.
 fn destination(past: &Past, n: u8) -> Addr
-    ensures { result ≡ sheet.destination past.now n }
+    ensures { result ≡ peers.destination past.now n }
 {
     Addr {
         ip: [
@@ -39,7 +41,7 @@ fn destination(past: &Past, n: u8) -> Addr
 
 // What Sn_PORT holds.
 fn source_port(past: &Past, n: u8) -> u16
-    ensures { result ≡ sheet.source_port past.now n }
+    ensures { result ≡ peers.source_port past.now n }
 {
     let high = last_written(past, registers_of(n), 0x04).unwrap_or(0x00);
     let low = last_written(past, registers_of(n), 0x05).unwrap_or(0x00);
@@ -51,41 +53,64 @@ const NO_ADDRESS: Addr = Addr {
     port: 0,
 };
 
-// The address kept at the last accepted CONNECT: what Sn_DIPR and Sn_DPORT held then.
-fn connect_address(past: &Past, n: u8) -> Result<Addr, AllocError>
-    ensures { IfOk result (λ to. to ≡ sheet.connect_address past.now n) }
+// Whether this keeps the destination: CONNECT in INIT, and SEND in UDP. The status is looked at only where it matters.
+fn keeps_address(past: &Past, n: u8, why: Cause) -> Result<bool, AllocError>
+    ensures { IfOk result (λ is. is ≡ sheet.keeps_address why (socket_life.status past.now n)) }
+{
+    match why {
+        Cause::Connect => Ok(matches!(status(past, n)?, Status::Init)),
+        Cause::Send => Ok(matches!(status(past, n)?, Status::Udp)),
+        _ => Ok(false),
+    }
+}
+
+// The address kept at the last of these: what Sn_DIPR and Sn_DPORT held then.
+fn kept_address(past: &Past, n: u8) -> Result<Addr, AllocError>
+    ensures { IfOk result (λ to. to ≡ sheet.kept_address past.now n) }
 {
     match &past.newest {
         Newest::Nothing => Ok(NO_ADDRESS),
-        Newest::Happened(kept, made, before) => match cause(before, n, kept, *made) {
-            Cause::Connect => match status(before, n)? {
-                Status::Init => Ok(destination(before, n)),
-                _ => connect_address(before, n),
-            },
-            _ => connect_address(before, n),
-        },
+        Newest::Happened(kept, made, before) => {
+            if keeps_address(before, n, cause(before, n, kept, *made))? {
+                Ok(destination(before, n))
+            } else {
+                kept_address(before, n)
+            }
+        }
     }
 }
 
-// The port kept at the last accepted LISTEN: what Sn_PORT held then.
-fn listen_port(past: &Past, n: u8) -> Result<u16, AllocError>
-    ensures { IfOk result (λ port. port ≡ sheet.listen_port past.now n) }
+// Whether this keeps the socket's own port: LISTEN in INIT, and OPEN in CLOSED for UDP.
+fn keeps_port(past: &Past, n: u8, why: Cause) -> Result<bool, AllocError>
+    ensures { IfOk result (λ is. is ≡ sheet.keeps_port why (socket_life.status past.now n)) }
+{
+    match why {
+        Cause::Listen => Ok(matches!(status(past, n)?, Status::Init)),
+        Cause::OpenUdp => Ok(matches!(status(past, n)?, Status::Closed)),
+        _ => Ok(false),
+    }
+}
+
+// The port kept at the last of these: what Sn_PORT held then.
+fn kept_port(past: &Past, n: u8) -> Result<u16, AllocError>
+    ensures { IfOk result (λ port. port ≡ sheet.kept_port past.now n) }
 {
     match &past.newest {
         Newest::Nothing => Ok(0),
-        Newest::Happened(kept, made, before) => match cause(before, n, kept, *made) {
-            Cause::Listen => match status(before, n)? {
-                Status::Init => Ok(source_port(before, n)),
-                _ => listen_port(before, n),
-            },
-            _ => listen_port(before, n),
-        },
+        Newest::Happened(kept, made, before) => {
+            if keeps_port(before, n, cause(before, n, kept, *made))? {
+                Ok(source_port(before, n))
+            } else {
+                kept_port(before, n)
+            }
+        }
     }
 }
 
-// What is due at the outgoing place of a socket in a status, where so many bytes are in flight.
-fn outgoing_in(status: Status, c: ConnId, to: Addr, flight: u64, shut: bool) -> Due
-    ensures { result ≡ sheet.outgoing_in status c to flight shut }
+// What is due at the outgoing place of a socket in a status, where this address and this port are kept and so many bytes are in
+// flight.
+fn outgoing_in(status: Status, c: ConnId, to: Addr, port: u16, flight: u64, shut: bool) -> Due
+    ensures { result ≡ sheet.outgoing_in status c to port flight shut }
 {
     match status {
         Status::SynSent => Due::Connect(c, to),
@@ -105,11 +130,18 @@ fn outgoing_in(status: Status, c: ConnId, to: Addr, flight: u64, shut: bool) -> 
                 Due::Shut(c)
             }
         }
+        Status::Udp => {
+            if 0 < flight {
+                Due::SendTo(c, port, to)
+            } else {
+                Due::Nothing
+            }
+        }
         Status::Closed | Status::Init | Status::Listen => Due::Nothing,
     }
 }
 
-// What is due at its incoming place, where so many bytes are free of the RX buffer.
+// What is due at its incoming place, where this port is kept and so many bytes are free of the RX buffer.
 fn incoming_in(status: Status, c: ConnId, port: u16, free: u64, ended: bool) -> Due
     ensures { result ≡ sheet.incoming_in status c port free ended }
 {
@@ -123,23 +155,24 @@ fn incoming_in(status: Status, c: ConnId, port: u16, free: u64, ended: bool) -> 
                 Due::ReadAway(c)
             }
         }
+        Status::Udp => Due::RecvFrom(c, port),
         Status::Closed | Status::Init | Status::SynSent | Status::CloseWait | Status::LastAck =>
             Due::Nothing,
     }
 }
 
-fn outgoing_of(starts: Starts, past: &Past, n: u8, at: Life) -> Result<Due, AllocError>
-    ensures { IfOk result (λ due. due ≡ sheet.outgoing_of (sheet_starts starts) past.now n (sheet_life at)) }
+// What is due at the outgoing place of socket n, by its life, the kept address and port, and how many bytes are in flight.
+fn outgoing_of(n: u8, at: Life, to: Addr, port: u16, flight: u64) -> Due
+    ensures { result ≡ sheet.outgoing_of n (sheet_life at) to port flight }
 {
     match at.old {
-        Some(life) => Ok(Due::Drop(ConnId { sn: n, life })),
+        Some(life) => Due::Drop(ConnId { sn: n, life }),
         None => {
             let c = ConnId {
                 sn: n,
                 life: at.lives,
             };
-            let to = connect_address(past, n)?;
-            Ok(outgoing_in(at.status, c, to, flight(starts, past, n)?, at.shut))
+            outgoing_in(at.status, c, to, port, flight, at.shut)
         }
     }
 }
@@ -150,21 +183,23 @@ fn outgoing(starts: Starts, past: &Past, n: u8) -> Result<Due, AllocError>
     ensures { IfOk result (λ due. due ≡ sheet.outgoing (sheet_starts starts) past.now n) }
 {
     let at = life_of(past, n)?;
-    outgoing_of(starts, past, n, at)
+    let to = kept_address(past, n)?;
+    let port = kept_port(past, n)?;
+    Ok(outgoing_of(n, at, to, port, flight(starts, past, n)?))
 }
 
-fn incoming_of(starts: Starts, past: &Past, n: u8, at: Life) -> Result<Due, AllocError>
-    ensures { IfOk result (λ due. due ≡ sheet.incoming_of (sheet_starts starts) past.now n (sheet_life at)) }
+// What is due at the incoming place of socket n, by its life, the kept port, and how many bytes are free of the RX buffer.
+fn incoming_of(n: u8, at: Life, port: u16, free: u64) -> Due
+    ensures { result ≡ sheet.incoming_of n (sheet_life at) port free }
 {
     match at.old {
-        Some(_) => Ok(Due::Nothing),
+        Some(_) => Due::Nothing,
         None => {
             let c = ConnId {
                 sn: n,
                 life: at.lives,
             };
-            let port = listen_port(past, n)?;
-            Ok(incoming_in(at.status, c, port, rx_free(starts, past, n)?, at.ended))
+            incoming_in(at.status, c, port, free, at.ended)
         }
     }
 }
@@ -174,7 +209,8 @@ fn incoming(starts: Starts, past: &Past, n: u8) -> Result<Due, AllocError>
     ensures { IfOk result (λ due. due ≡ sheet.incoming (sheet_starts starts) past.now n) }
 {
     let at = life_of(past, n)?;
-    incoming_of(starts, past, n, at)
+    let port = kept_port(past, n)?;
+    Ok(incoming_of(n, at, port, rx_free(starts, past, n)?))
 }
 
 /// The link call that is due at a place: place 2n is the outgoing one of socket n, and 2n + 1 the incoming one.
@@ -215,6 +251,11 @@ fn answers_call(due: Due, flight: u64, free: u64, what: &LinkWhat<'_>) -> bool
             LinkWhat::Failed => true,
             _ => false,
         },
+        Due::SendTo(_, _, _) => match what {
+            LinkWhat::Took(count) => u64::from(*count) == flight,
+            LinkWhat::Failed => true,
+            _ => false,
+        },
         Due::Shut(_) => matches!(what, LinkWhat::Shut | LinkWhat::Failed),
         Due::Accept(_, _) => matches!(what, LinkWhat::Accepted(_) | LinkWhat::Failed),
         Due::Read(_) => match what {
@@ -225,6 +266,11 @@ fn answers_call(due: Due, flight: u64, free: u64, what: &LinkWhat<'_>) -> bool
         Due::ReadAway(_) => match what {
             LinkWhat::Got(bytes) => one_to(MOST_READ, bytes.len() as u64),
             LinkWhat::Ended | LinkWhat::Failed => true,
+            _ => false,
+        },
+        Due::RecvFrom(_, _) => match what {
+            LinkWhat::Datagram(_, body) => body.len() as u64 <= MOST_READ,
+            LinkWhat::Failed => true,
             _ => false,
         },
     }

@@ -1,5 +1,6 @@
 // The register block of a socket (W5500 datasheet, 3.2 and 4.2), and what its places read.
 ghost use Rattle.std.specs.Prelude.{◌≡◌, ◌+◌, ◌-◌, ◌&&◌, nat_le, nat_lt, IfOk, length, map, slice_index};
+ghost use Rattle.chip_sheet.specs.Peers as peers;
 ghost use Rattle.chip_sheet.specs.SocketBlock as sheet;
 ghost use Rattle.chip_past.specs.Begun.{sheet_starts};
 ghost use Rattle.chip_plain.specs.SocketPlaces.{sheet_register, sheet_place, sheet_shows};
@@ -234,11 +235,14 @@ fn socket_place(at: u16) -> Place
 
 // A byte of an address as Sn_DIPR and Sn_DPORT show it, 0C to 11.
 fn peer_byte_of(from: &Addr, at: u16) -> u8
-    ensures { result ≡ slice_index (sheet.peer_bytes from.now) (at - 0x0C) }
+    ensures { result ≡ slice_index (peers.peer_bytes from.now) (at - 0x0C) }
 {
     let place = at.saturating_sub(0x0C);
     match place {
-        0..=3 => from.ip[usize::from(place)],
+        0 => from.ip[0],
+        1 => from.ip[1],
+        2 => from.ip[2],
+        3 => from.ip[3],
         4 => byte_of(0, u64::from(from.port)),
         5 => byte_of(1, u64::from(from.port)),
         _ => 0,
@@ -247,7 +251,7 @@ fn peer_byte_of(from: &Addr, at: u16) -> u8
 
 /// A byte of Sn_DIPR or Sn_DPORT: the later of the last write and the last accepted peer, since the last reset.
 pub(crate) fn peer_byte(past: &Past, n: u8, at: u16, reset: u8) -> u8
-    ensures { result ≡ sheet.peer_byte past.now n at reset }
+    ensures { result ≡ peers.peer_byte past.now n at reset }
 {
     match &past.newest {
         Newest::Nothing => reset,

@@ -1,16 +1,17 @@
 // Where the board stops in place of an answer (this profile's own).
-ghost use Rattle.std.specs.Prelude.{◌≡◌, ◌<◌, nat_lt, IfOk, IsSome, length};
+ghost use Rattle.std.specs.Prelude.{◌≡◌, ◌<◌, ◌&&◌, nat_lt, IfOk, IsSome, length};
 ghost use Rattle.chip_sheet.specs.Frames.{access};
 ghost use Rattle.chip_sheet.specs.Life as socket_life;
+ghost use Rattle.chip_sheet.specs.Sizes as sizes;
 ghost use Rattle.chip_sheet.specs.Stops as sheet;
 ghost use Rattle.chip_sheet.specs.Streams as streams;
 ghost use Rattle.chip_sheet.specs.Windows as windows;
 ghost use Rattle.chip_sheet.specs.declared.stop.ChipStop.TheVariants as stops;
 ghost use Rattle.chip_past.specs.Begun.{sheet_starts};
-ghost use Rattle.chip_plain.specs.Deeds.{sheet_deed};
+ghost use Rattle.chip_plain.specs.BlockAccesses.{sheet_block_access};
 
-use crate::windows::{in_flight_at, tx_free, unread};
-use chip_past::life::{is_closed, lives, protocol, status};
+use crate::windows::{flight, in_flight_at, tx_free, unread};
+use chip_past::life::{is_closed, is_udp, lives, mode, protocol_of, status};
 use chip_past::past::Past;
 use chip_past::sizes::{RX_SIZES, TX_SIZES, block_of, resizes_block, sizes_valid, tx_size};
 use chip_past::streams::{
@@ -23,38 +24,37 @@ use std::alloc::AllocError;
 
 // What an access does, as the rows below look at it.
 #[derive(Clone, Copy, Debug)]
-enum Deed {
+enum BlockAccess {
     // it reads a byte of a block, whose select bits stand first
     Reads(u8, Block, u16),
     // it writes a byte of a block
     Writes(u8, Block, u16, u8),
     // it makes no access
-    Touches,
+    NoBlock,
 }
 
-fn deed_of(made: Access) -> Deed
-    ensures { sheet_deed result ≡ sheet.deed_of made }
+fn block_access(made: Access) -> BlockAccess
+    ensures { sheet_block_access result ≡ sheet.block_access made }
 {
     match made {
-        Access::NoAccess => Deed::Touches,
-        Access::Read { block, addr } => Deed::Reads(block, block_of(block), addr),
-        Access::Write { block, addr, value } => Deed::Writes(block, block_of(block), addr, value),
+        Access::NoAccess => BlockAccess::NoBlock,
+        Access::Read { block, addr } => BlockAccess::Reads(block, block_of(block), addr),
+        Access::Write { block, addr, value } => BlockAccess::Writes(
+            block,
+            block_of(block),
+            addr,
+            value,
+        ),
     }
 }
 
-// Whether a command is written: this byte to Sn_CR.
-fn is_command(asked: u8, addr: u16, v: u8) -> bool
-    ensures { result ≡ sheet.is_command asked addr v }
-{
-    addr == 0x01 && v == asked
-}
-
 // A byte of a reserved block is read or written.
-fn reserved_block(deed: Deed) -> Option<ChipStop>
-    ensures { result ≡ sheet.reserved_block (sheet_deed deed) }
+fn reserved_block(made: BlockAccess) -> Option<ChipStop>
+    ensures { result ≡ sheet.reserved_block (sheet_block_access made) }
 {
-    match deed {
-        Deed::Reads(block, Block::Reserved, _) | Deed::Writes(block, Block::Reserved, _, _) => {
+    match made {
+        BlockAccess::Reads(block, Block::Reserved, _)
+        | BlockAccess::Writes(block, Block::Reserved, _, _) => {
             Some(ChipStop::ReservedBlock { block })
         }
         _ => None,
@@ -62,11 +62,11 @@ fn reserved_block(deed: Deed) -> Option<ChipStop>
 }
 
 // MR is written with bit 7 clear and bit 3 set.
-fn pppoe(deed: Deed) -> Option<ChipStop>
-    ensures { result ≡ sheet.pppoe (sheet_deed deed) }
+fn pppoe(made: BlockAccess) -> Option<ChipStop>
+    ensures { result ≡ sheet.pppoe (sheet_block_access made) }
 {
-    match deed {
-        Deed::Writes(_, Block::Common, addr, v) => {
+    match made {
+        BlockAccess::Writes(_, Block::Common, addr, v) => {
             if addr == 0x00 && v < 128 && v / 8 % 2 == 1 {
                 Some(ChipStop::Pppoe)
             } else {
@@ -96,11 +96,11 @@ fn any_open(past: &Past, ns: &[u8]) -> Result<bool, AllocError>
 }
 
 // A size register is written with another value while any socket is not closed.
-fn size_while_open(past: &Past, deed: Deed) -> Result<Option<ChipStop>, AllocError>
-    ensures { IfOk result (λ stop. stop ≡ sheet.size_while_open past.now (sheet_deed deed)) }
+fn size_while_open(past: &Past, made: BlockAccess) -> Result<Option<ChipStop>, AllocError>
+    ensures { IfOk result (λ stop. stop ≡ sheet.size_while_open past.now (sheet_block_access made)) }
 {
-    match deed {
-        Deed::Writes(_, Block::Registers(n), addr, v) => {
+    match made {
+        BlockAccess::Writes(_, Block::Registers(n), addr, v) => {
             let block = Block::Registers(n);
             if resizes_block(past, RX_SIZES, block, addr, v)
                 || resizes_block(past, TX_SIZES, block, addr, v)
@@ -133,12 +133,12 @@ fn overwrite(n: u8, size: u32, addr: u16, found: Option<u64>) -> Option<ChipStop
 fn overwrite_in_flight(
     starts: Starts,
     past: &Past,
-    deed: Deed,
+    made: BlockAccess,
 ) -> Result<Option<ChipStop>, AllocError>
-    ensures { IfOk result (λ stop. stop ≡ sheet.overwrite_in_flight (sheet_starts starts) past.now (sheet_deed deed)) }
+    ensures { IfOk result (λ stop. stop ≡ sheet.overwrite_in_flight (sheet_starts starts) past.now (sheet_block_access made)) }
 {
-    match deed {
-        Deed::Writes(_, Block::TxBuffer(n), addr, _) => {
+    match made {
+        BlockAccess::Writes(_, Block::TxBuffer(n), addr, _) => {
             let found = in_flight_at(starts, past, n, addr)?;
             Ok(overwrite(n, tx_size(past, n), addr, found))
         }
@@ -147,54 +147,66 @@ fn overwrite_in_flight(
 }
 
 // The command SEND_MAC, in any status.
-fn send_mac(deed: Deed) -> Option<ChipStop>
-    ensures { result ≡ sheet.send_mac (sheet_deed deed) }
+fn send_mac(n: u8, v: u8) -> Option<ChipStop>
+    ensures { result ≡ sheet.send_mac n v }
 {
-    match deed {
-        Deed::Writes(_, Block::Registers(n), addr, v) => {
-            if is_command(0x21, addr, v) {
-                Some(ChipStop::SendMac { sn: n })
-            } else {
-                None
-            }
-        }
-        _ => None,
+    if v == 0x21 {
+        Some(ChipStop::SendMac { sn: n })
+    } else {
+        None
     }
 }
 
 // OPEN in CLOSED with the protocol MACRAW.
-fn raw_ethernet(past: &Past, deed: Deed) -> Result<Option<ChipStop>, AllocError>
-    ensures { IfOk result (λ stop. stop ≡ sheet.raw_ethernet past.now (sheet_deed deed)) }
+fn raw_ethernet(past: &Past, n: u8, v: u8) -> Result<Option<ChipStop>, AllocError>
+    ensures { IfOk result (λ stop. stop ≡ sheet.raw_ethernet n (socket_life.status past.now n) (socket_life.mode past.now n) v) }
 {
-    match deed {
-        Deed::Writes(_, Block::Registers(n), addr, v) => {
-            if is_command(0x01, addr, v) && is_closed(status(past, n)?) && protocol(past, n) == 4 {
-                Ok(Some(ChipStop::RawEthernet { sn: n }))
-            } else {
-                Ok(None)
-            }
-        }
-        _ => Ok(None),
+    if v == 0x01 && is_closed(status(past, n)?) && protocol_of(mode(past, n)) == 4 {
+        Ok(Some(ChipStop::RawEthernet { sn: n }))
+    } else {
+        Ok(None)
     }
 }
 
-// OPEN in CLOSED with the protocol TCP while the sizes of a direction are not valid.
-fn bad_buffer_size(past: &Past, deed: Deed) -> Result<Option<ChipStop>, AllocError>
-    ensures { IfOk result (λ stop. stop ≡ sheet.bad_buffer_size past.now (sheet_deed deed)) }
+// OPEN in CLOSED with the protocol UDP and the multicast bit.
+fn multicast(past: &Past, n: u8, v: u8) -> Result<Option<ChipStop>, AllocError>
+    ensures { IfOk result (λ stop. stop ≡ sheet.multicast n (socket_life.status past.now n) (socket_life.mode past.now n) v) }
 {
-    match deed {
-        Deed::Writes(_, Block::Registers(n), addr, v) => {
-            if is_command(0x01, addr, v)
-                && is_closed(status(past, n)?)
-                && protocol(past, n) == 1
-                && !(sizes_valid(past, TX_SIZES) && sizes_valid(past, RX_SIZES))
-            {
-                Ok(Some(ChipStop::BadBufferSize { sn: n }))
-            } else {
-                Ok(None)
-            }
-        }
-        _ => Ok(None),
+    if v == 0x01
+        && is_closed(status(past, n)?)
+        && protocol_of(mode(past, n)) == 2
+        && mode(past, n) / 0x80 % 2 == 1
+    {
+        Ok(Some(ChipStop::Multicast { sn: n }))
+    } else {
+        Ok(None)
+    }
+}
+
+// OPEN in CLOSED with the protocol TCP or UDP while the sizes of a direction are not valid.
+fn bad_buffer_size(past: &Past, n: u8, v: u8) -> Result<Option<ChipStop>, AllocError>
+    ensures { IfOk result (λ stop. stop ≡ sheet.bad_buffer_size n (socket_life.status past.now n) (socket_life.mode past.now n)
+        (sizes.sizes_valid past.now sizes.tx_sizes && sizes.sizes_valid past.now sizes.rx_sizes) v) }
+{
+    if v == 0x01
+        && is_closed(status(past, n)?)
+        && (protocol_of(mode(past, n)) == 1 || protocol_of(mode(past, n)) == 2)
+        && !(sizes_valid(past, TX_SIZES) && sizes_valid(past, RX_SIZES))
+    {
+        Ok(Some(ChipStop::BadBufferSize { sn: n }))
+    } else {
+        Ok(None)
+    }
+}
+
+// SEND in UDP while a datagram is in flight.
+fn send_busy(starts: Starts, past: &Past, n: u8, v: u8) -> Result<Option<ChipStop>, AllocError>
+    ensures { IfOk result (λ stop. stop ≡ sheet.send_busy n (socket_life.status past.now n) (windows.flight (sheet_starts starts) past.now n) v) }
+{
+    if v == 0x20 && is_udp(status(past, n)?) && 0 < flight(starts, past, n)? {
+        Ok(Some(ChipStop::SendBusy { sn: n }))
+    } else {
+        Ok(None)
     }
 }
 
@@ -221,18 +233,15 @@ fn too_long(starts: Starts, past: &Past, n: u8) -> Result<Option<ChipStop>, Allo
 }
 
 // SEND, in a status that takes it, of a range that is longer than the free size.
-fn send_too_long(starts: Starts, past: &Past, deed: Deed) -> Result<Option<ChipStop>, AllocError>
-    ensures { IfOk result (λ stop. stop ≡ sheet.send_too_long (sheet_starts starts) past.now (sheet_deed deed)) }
+fn send_too_long(starts: Starts, past: &Past, n: u8, v: u8) -> Result<Option<ChipStop>, AllocError>
+    ensures { IfOk result (λ stop. stop ≡ sheet.send_too_long n (socket_life.status past.now n)
+        (streams.range_length (sheet_starts starts) past.now n (length (streams.sent (sheet_starts starts) past.now n (socket_life.lives past.now n))))
+        (windows.tx_free (sheet_starts starts) past.now n) v) }
 {
-    match deed {
-        Deed::Writes(_, Block::Registers(n), addr, v) => {
-            if is_command(0x20, addr, v) && sends(status(past, n)?) {
-                too_long(starts, past, n)
-            } else {
-                Ok(None)
-            }
-        }
-        _ => Ok(None),
+    if v == 0x20 && sends(status(past, n)?) {
+        too_long(starts, past, n)
+    } else {
+        Ok(None)
     }
 }
 
@@ -259,13 +268,55 @@ fn past_end(starts: Starts, past: &Past, n: u8) -> Result<Option<ChipStop>, Allo
 }
 
 // RECV, in a status that takes it, past the received bytes.
-fn recv_past_end(starts: Starts, past: &Past, deed: Deed) -> Result<Option<ChipStop>, AllocError>
-    ensures { IfOk result (λ stop. stop ≡ sheet.recv_past_end (sheet_starts starts) past.now (sheet_deed deed)) }
+fn recv_past_end(starts: Starts, past: &Past, n: u8, v: u8) -> Result<Option<ChipStop>, AllocError>
+    ensures { IfOk result (λ stop. stop ≡ sheet.recv_past_end n (socket_life.status past.now n)
+        (streams.release_length (sheet_starts starts) past.now n (streams.released (sheet_starts starts) past.now n (socket_life.lives past.now n)))
+        (windows.unread (sheet_starts starts) past.now n) v) }
 {
-    match deed {
-        Deed::Writes(_, Block::Registers(n), addr, v) => {
-            if is_command(0x40, addr, v) && is_open(status(past, n)?) {
-                past_end(starts, past, n)
+    if v == 0x40 && is_open(status(past, n)?) {
+        past_end(starts, past, n)
+    } else {
+        Ok(None)
+    }
+}
+
+// The stops of a command in the order in which they are looked at.
+fn command_stop(starts: Starts, past: &Past, n: u8, v: u8) -> Result<Option<ChipStop>, AllocError>
+    ensures { IfOk result (λ stop. stop ≡ sheet.command_stop n (sheet.command_facts (sheet_starts starts) past.now n) v) }
+{
+    if let Some(stop) = send_mac(n, v) {
+        return Ok(Some(stop));
+    }
+    if let Some(stop) = raw_ethernet(past, n, v)? {
+        return Ok(Some(stop));
+    }
+    if let Some(stop) = multicast(past, n, v)? {
+        return Ok(Some(stop));
+    }
+    if let Some(stop) = bad_buffer_size(past, n, v)? {
+        return Ok(Some(stop));
+    }
+    if let Some(stop) = send_busy(starts, past, n, v)? {
+        return Ok(Some(stop));
+    }
+    if let Some(stop) = send_too_long(starts, past, n, v)? {
+        return Ok(Some(stop));
+    }
+    recv_past_end(starts, past, n, v)
+}
+
+// A command is written that stops.
+fn refused_command(
+    starts: Starts,
+    past: &Past,
+    made: BlockAccess,
+) -> Result<Option<ChipStop>, AllocError>
+    ensures { IfOk result (λ stop. stop ≡ sheet.refused_command (sheet_starts starts) past.now (sheet_block_access made)) }
+{
+    match made {
+        BlockAccess::Writes(_, Block::Registers(n), addr, v) => {
+            if addr == 0x01 {
+                command_stop(starts, past, n, v)
             } else {
                 Ok(None)
             }
@@ -274,35 +325,23 @@ fn recv_past_end(starts: Starts, past: &Past, deed: Deed) -> Result<Option<ChipS
     }
 }
 
-// The stops in the order in which they are looked at.
-fn stop_by(starts: Starts, past: &Past, deed: Deed) -> Result<Option<ChipStop>, AllocError>
-    ensures { IfOk result (λ stop. stop ≡ sheet.stop_by (sheet_starts starts) past.now (sheet_deed deed)) }
+// The stops in the order in which they are looked at, those of commands last.
+fn stop_by(starts: Starts, past: &Past, made: BlockAccess) -> Result<Option<ChipStop>, AllocError>
+    ensures { IfOk result (λ stop. stop ≡ sheet.stop_by (sheet_starts starts) past.now (sheet_block_access made)) }
 {
-    if let Some(stop) = reserved_block(deed) {
+    if let Some(stop) = reserved_block(made) {
         return Ok(Some(stop));
     }
-    if let Some(stop) = pppoe(deed) {
+    if let Some(stop) = pppoe(made) {
         return Ok(Some(stop));
     }
-    if let Some(stop) = size_while_open(past, deed)? {
+    if let Some(stop) = size_while_open(past, made)? {
         return Ok(Some(stop));
     }
-    if let Some(stop) = overwrite_in_flight(starts, past, deed)? {
+    if let Some(stop) = overwrite_in_flight(starts, past, made)? {
         return Ok(Some(stop));
     }
-    if let Some(stop) = send_mac(deed) {
-        return Ok(Some(stop));
-    }
-    if let Some(stop) = raw_ethernet(past, deed)? {
-        return Ok(Some(stop));
-    }
-    if let Some(stop) = bad_buffer_size(past, deed)? {
-        return Ok(Some(stop));
-    }
-    if let Some(stop) = send_too_long(starts, past, deed)? {
-        return Ok(Some(stop));
-    }
-    recv_past_end(starts, past, deed)
+    refused_command(starts, past, made)
 }
 
 /// The stop of an event after this past which makes this access, if it has one.
@@ -315,7 +354,7 @@ pub(crate) fn stop_of(
     past: &Past,
     made: Access,
 ) -> Result<Option<ChipStop>, AllocError>
-    ensures { IfOk result (λ stop. stop ≡ sheet.stop_by (sheet_starts starts) past.now (sheet.deed_of made)) }
+    ensures { IfOk result (λ stop. stop ≡ sheet.stop_by (sheet_starts starts) past.now (sheet.block_access made)) }
 {
-    stop_by(starts, past, deed_of(made))
+    stop_by(starts, past, block_access(made))
 }

@@ -8,14 +8,14 @@ ghost use Rattle.chip_sheet.specs.Streams as streams;
 ghost use Rattle.chip_sheet.specs.Windows as sheet;
 ghost use Rattle.chip_past.specs.Begun.{sheet_starts};
 
-use chip_past::life::{cause, lives, status};
+use chip_past::life::{begins, cause, lives, status};
 use chip_past::past::{Newest, Past};
 use chip_past::positions::{found_among, shown};
 use chip_past::sizes::{rx_size, tx_size};
 use chip_past::streams::{
     Starts, got, got_length, is_open, released, rx_base, sent_length, taken, tx_base,
 };
-use chip_sheet::socket::{Cause, Status};
+use chip_sheet::socket::Cause;
 use std::alloc::{AllocError, Global};
 
 /// Bytes in flight: passed to SEND and not taken by the link. There are none where the socket is not open.
@@ -46,7 +46,7 @@ pub(crate) fn unread(starts: Starts, past: &Past, n: u8) -> Result<u64, AllocErr
         return Ok(0);
     }
     let life = lives(past, n)?;
-    let got = got_length(past, n, life)?;
+    let got = got_length(starts, past, n, life)?;
     Ok(got.saturating_sub(released(starts, past, n, life)?))
 }
 
@@ -79,10 +79,13 @@ fn opened_by(past: &Past, n: u8, why: Cause) -> Result<Option<bool>, AllocError>
 {
     match why {
         Cause::Reset => Ok(Some(false)),
-        Cause::Open => match status(past, n)? {
-            Status::Closed => Ok(Some(true)),
-            _ => Ok(None),
-        },
+        Cause::OpenTcp | Cause::OpenUdp => {
+            if begins(why, status(past, n)?) {
+                Ok(Some(true))
+            } else {
+                Ok(None)
+            }
+        }
         _ => Ok(None),
     }
 }
@@ -120,7 +123,7 @@ fn received_position(starts: Starts, past: &Past, n: u8) -> Result<u64, AllocErr
 {
     let life = lives(past, n)?;
     let base = rx_base(starts, past, n, life)?;
-    base.checked_add(got_length(past, n, life)?)
+    base.checked_add(got_length(starts, past, n, life)?)
         .ok_or(AllocError)
 }
 
@@ -206,13 +209,13 @@ fn unread_at(starts: Starts, past: &Past, n: u8, addr: u16) -> Result<Option<u64
 
 // The received byte of the present life at this place among those that are not released.
 fn got_behind(alloc: Global, starts: Starts, past: &Past, n: u8, j: u64) -> Result<u8, AllocError>
-    ensures { IfOk result (λ byte. byte ≡ slice_index (streams.got past.now n (socket_life.lives past.now n))
+    ensures { IfOk result (λ byte. byte ≡ slice_index (streams.got (sheet_starts starts) past.now n (socket_life.lives past.now n))
         (streams.released (sheet_starts starts) past.now n (socket_life.lives past.now n) + j)) }
 {
     let life = lives(past, n)?;
     let gone = released(starts, past, n, life)?;
     let at = gone.checked_add(j).ok_or(AllocError)?;
-    let bytes = got(alloc, past, n, life)?;
+    let bytes = got(alloc, starts, past, n, life)?;
     Ok(bytes.get(at as usize).copied().unwrap_or(0))
 }
 

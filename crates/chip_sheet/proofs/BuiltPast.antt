@@ -2,9 +2,9 @@
 use Rattle.std.proofs.Common.{◌≡◌, ℕ, ◌+◌, ◌*◌, Bool, true, false, ◌&&◌, ◌||◌, not, cond, eqb, List, [], ◌∷◌, Option, None, Some, refl, sym, ap, ◌∙◌, arith}
 use Rattle.std.proofs.lemmas.Bool.{eqb-true, ne_eqb}
 use Rattle.std.specs.Option.{unwrap_or}
-use Rattle.chip_sheet.specs.declared.event.BusEvent.{BusEvent}
-use Rattle.chip_sheet.specs.declared.event.BusEvent.TheVariants.{Select, Byte, Look}
-use Rattle.chip_sheet.specs.declared.event.BusAnswer.TheVariants.{Out, Level}
+use Rattle.board_bus.specs.declared.event.BusEvent.{BusEvent}
+use Rattle.board_bus.specs.declared.event.BusEvent.TheVariants.{Select, Byte, Look}
+use Rattle.board_bus.specs.declared.event.BusAnswer.TheVariants.{Out, Level}
 use Rattle.chip_sheet.specs.declared.phase.Access.{Access}
 use Rattle.chip_sheet.specs.declared.phase.Access.TheVariants.{NoAccess, Read, Write}
 use Rattle.chip_sheet.specs.declared.socket.Cause.{Cause}
@@ -14,16 +14,18 @@ use Rattle.chip_sheet.specs.declared.socket.Status.{Status}
 use Rattle.chip_sheet.specs.declared.stop.ChipStop.TheVariants.{Pppoe}
 use Rattle.chip_sheet.specs.declared.stop.Unbuilt.{Unbuilt}
 use Rattle.chip_sheet.specs.declared.stop.Unbuilt.TheVariants.{NotBuilt}
-use Rattle.chip_sheet.specs.Past.{Past, Entry, Bus, Link, Rest}
+use Rattle.chip_sheet.specs.declared.event.Entry.{Entry}
+use Rattle.chip_sheet.specs.declared.event.Entry.TheVariants.{Bus, Link, Rest}
+use Rattle.chip_sheet.specs.Past.{Past}
 use Rattle.chip_sheet.specs.Blocks.{sockets}
 use Rattle.chip_sheet.specs.Frames.{access, access_of}
 use Rattle.chip_sheet.specs.CommonBlock.{common_place}
 use Rattle.chip_sheet.specs.Registers.{common_register, last_written}
 use Rattle.chip_sheet.specs.Life.{cause, cause_by, life, life_after, unborn, status}
 use Rattle.chip_sheet.specs.Streams.{Starts}
-use Rattle.chip_sheet.specs.Interrupts.{raised, raised_by_life, raised_by_bytes, clears, asks, any_masked_in, interrupts, sir_from, sir, any_enabled}
+use Rattle.chip_sheet.specs.Interrupts.{raised, raised_by_life, raised_by_bytes, clears, asks, any_masked_in, interrupts, sir_from, any_enabled, enabled_sockets}
 use Rattle.chip_sheet.specs.Answers.{answer, byte_out, common_byte}
-use Rattle.chip_sheet.specs.Stops.{stop, stop_by, deed_of, where_it}
+use Rattle.chip_sheet.specs.Stops.{stop, stop_by, block_access, where_it}
 use Rattle.chip_sheet.specs.Legal.{Legal}
 use Rattle.chip_sheet.specs.BuiltAnswers.{built_answer, built_byte}
 use Rattle.chip_sheet.specs.BuiltStops.{unbuilt, unbuilt_of}
@@ -142,13 +144,13 @@ same_out starts past (Write block addr v) h built = refl
 pub same_answer : (starts : Starts) (past : Past) (e : BusEvent) → BuiltLegal past → unbuilt past e ≡ None → answer starts past e ≡ built_answer past e
 same_answer starts past (Select low) h built = refl
 same_answer starts past (Byte v) h built = ap Out (same_out starts past (access past (Byte v)) h (is_built (access past (Byte v)) built))
-same_answer starts past Look h built = ap (λ b. Level (not b)) (none_enabled starts past sockets (unwrap_or (last_written past 0 0x18) 0x00) 1 h)
+same_answer starts past Look h built = ap (λ b. Level (not b)) (none_enabled starts past sockets (enabled_sockets past) 1 h)
 
 not_pppoe : (b : Bool) → cond b (Some NotBuilt) None ≡ None → where_it b Pppoe ≡ None
 not_pppoe true h = cc
 not_pppoe false h = refl
 
-no_stop_by : (starts : Starts) (past : Past) (made : Access) → IsBuilt made → stop_by starts past (deed_of made) ≡ None
+no_stop_by : (starts : Starts) (past : Past) (made : Access) → IsBuilt made → stop_by starts past (block_access made) ≡ None
 no_stop_by starts past NoAccess built = refl
 no_stop_by starts past (Read block addr) built = rw built refl
 no_stop_by starts past (Write block addr v) (at, built) = rw at (rw (not_pppoe _ built) refl)

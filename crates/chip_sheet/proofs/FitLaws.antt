@@ -4,32 +4,37 @@ use Rattle.std.proofs.lemmas.Bool.{cases_Bool, and_parts, or_cases, leb-true, co
 use Rattle.chip_sheet.specs.declared.event.Addr.{Addr}
 use Rattle.chip_sheet.specs.declared.event.ConnId.{ConnId}
 use Rattle.chip_sheet.specs.declared.socket.Status.{Status}
-use Rattle.chip_sheet.specs.declared.socket.Status.TheVariants.{Closed, SynSent, Established, FinWait, CloseWait, LastAck}
+use Rattle.chip_sheet.specs.declared.socket.Status.TheVariants.{Closed, SynSent, Established, FinWait, CloseWait, LastAck, Udp}
 use Rattle.chip_sheet.specs.declared.socket.Cause.{Cause}
 use Rattle.chip_sheet.specs.declared.socket.Cause.TheVariants as because
 use Rattle.chip_sheet.specs.declared.socket.Due.{Due}
 use Rattle.chip_sheet.specs.declared.socket.Due.TheVariants as due
-use Rattle.chip_sheet.specs.Past.{Past, Entry, Bus, Link, Rest, LinkEntry, Linked, Got}
+use Rattle.chip_sheet.specs.declared.event.Entry.{Entry}
+use Rattle.chip_sheet.specs.declared.event.Entry.TheVariants.{Bus, Link, Rest}
+use Rattle.chip_sheet.specs.declared.event.LinkEntry.{LinkEntry}
+use Rattle.chip_sheet.specs.declared.event.LinkEntry.TheVariants.{Linked, Got, Datagram}
+use Rattle.chip_sheet.specs.Past.{Past}
 use Rattle.chip_sheet.specs.Frames.{access}
 use Rattle.chip_sheet.specs.Life.{life, cause, happening, status, lives, is_closed}
 use Rattle.chip_sheet.specs.Sizes.{tx_size, rx_size}
-use Rattle.chip_sheet.specs.Streams.{Starts, sent, sent_by, sends, takes_send, range_length, tx_bytes, tx_base, taken, taken_by, is_open, is_of, is_established, got, bytes_of, released, released_by}
-use Rattle.chip_sheet.specs.Windows.{flight, unread, tx_free, rx_free}
-use Rattle.chip_sheet.specs.LinkCalls.{outgoing, incoming, outgoing_in, incoming_in, connection, connect_address, listen_port, answers_call, most_read, fits}
+use Rattle.chip_sheet.specs.Streams.{Starts, sent, sent_by, sends, takes_send, range_length, tx_byte, tx_bytes, tx_base, taken, taken_by, is_open, is_of, is_established, header, put_by, free_behind, got, released, released_by}
+use Rattle.chip_sheet.specs.Windows.{flight, unread, tx_free, rx_free, most_read}
+use Rattle.chip_sheet.specs.LinkCalls.{outgoing, incoming, outgoing_in, incoming_in, connection, kept_address, kept_port, answers_call, fits}
+use Rattle.chip_sheet.specs.Sending.{bytes_from}
 use Rattle.chip_sheet.specs.Legal.{Legal}
-use Rattle.chip_sheet.proofs.SentLaws.{sent_same}
+use Rattle.chip_sheet.proofs.SentLaws.{sent_same, sent_other}
 use Rattle.chip_sheet.proofs.SizeLaws.{sizes_after}
 use Rattle.chip_sheet.proofs.Within.{send_within, taken_within, released_within, both_same, never_asks}
-use Rattle.chip_sheet.proofs.LifeSteps.{is_fresh, was_alive, fresh_sent, fresh_got, sent_by_fresh, got_fresh}
+use Rattle.chip_sheet.proofs.LifeSteps.{is_fresh, was_alive, unborn_sent, fresh_sent, unborn_got, got_other, fresh_got, sent_by_fresh, got_fresh}
 
 open_socket : (at : Status) → is_open at ≡ true → is_closed at ≡ false
 open_socket Closed h = cc
 open_socket at h = refl
 
 -- A SEND lengthens what was sent by the length of its range.
-bytes_length : (past : Past) (n at count : ℕ) → length (tx_bytes past n at count) ≡ count
-bytes_length past n at zero = refl
-bytes_length past n at (suc count) = ap suc (bytes_length past n (at + 1) count)
+bytes_length : (f : ℕ → ℕ) (at count : ℕ) → length (bytes_from f at count) ≡ count
+bytes_length f at zero = refl
+bytes_length f at (suc count) = ap suc (bytes_length f (at + 1) count)
 
 -- So many more bytes at most.
 record Sends (before after free : ℕ) : Type 0 where
@@ -47,7 +52,7 @@ sent_by_few starts past n because.Send few =
     let at = tx_base starts past n (lives past n) + so_far in
     cond_sends (takes_send past n (lives past n)) (sent starts past n (lives past n)) (tx_bytes past n at (range_length starts past n so_far)) (tx_free starts past n)
     (λ takes.
-    let long = bytes_length past n at (range_length starts past n so_far) in
+    let long : length (tx_bytes past n at (range_length starts past n so_far)) ≡ range_length starts past n so_far = bytes_length (tx_byte past n) at (range_length starts past n so_far) in
     let short = few refl (and_parts (sends (status past n)) (eqb (lives past n) (lives past n)) takes).0 in
     omega (arith, long, short))
 sent_by_few starts past n why few = record { at_most = omega arith }
@@ -106,6 +111,19 @@ alive_fly : (starts : Starts) (past : Past) (entry : Entry) (n : ℕ) → Legal 
 alive_fly starts past entry n legal fit (inl on) = open_fly starts past entry n legal on fit
 alive_fly starts past entry n legal fit (inr fresh) = fresh_fly starts past entry n (tx_size past n) fresh
 
+-- In a life that begins nothing is sent yet.
+pub begun_sent : (starts : Starts) (past : Past) (entry : Entry) (n : ℕ) → sent starts (entry ∷ past) n (lives past n + 1) ≡ []
+begun_sent starts past entry n = sent_other starts past entry n (lives past n + 1) (λ e. omega (arith, e)) ∙ unborn_sent starts past n (lives past n + 1) (omega arith)
+
+was_fly : (starts : Starts) (past : Past) (entry : Entry) (n : ℕ) → Legal starts (entry ∷ past) → flight starts past n ≤ tx_size past n
+    → ((lives (entry ∷ past) n ≡ lives past n) × ((is_open (status past n) ≡ true) ⊎ (is_fresh (status past n) ≡ true))) ⊎ (lives (entry ∷ past) n ≡ lives past n + 1)
+    → length (sent starts (entry ∷ past) n (lives (entry ∷ past) n)) - taken (entry ∷ past) n (lives (entry ∷ past) n) ≤ tx_size past n
+was_fly starts past entry n legal fit (inl (same, was)) =
+    subst (λ (l : ℕ). length (sent starts (entry ∷ past) n l) - taken (entry ∷ past) n l ≤ tx_size past n) (sym same) (alive_fly starts past entry n legal fit was)
+was_fly starts past entry n legal fit (inr begun) =
+    subst (λ (l : ℕ). length (sent starts (entry ∷ past) n l) - taken (entry ∷ past) n l ≤ tx_size past n) (sym begun)
+    (let none = ap length (begun_sent starts past entry n) in omega (arith, none))
+
 pub flight_within : (starts : Starts) (past : Past) (n : ℕ) → n < 8 → Legal starts past → flight starts past n ≤ tx_size past n
 flight_within starts [] n below legal = omega arith
 flight_within starts (entry ∷ past) n below legal =
@@ -114,33 +132,28 @@ flight_within starts (entry ∷ past) n below legal =
       | inr shut ↦ let none : flight starts (entry ∷ past) n ≡ 0 = cond-false (is_open (status (entry ∷ past) n)) after 0 shut in omega (arith, none)
       | inl on ↦
           let is : flight starts (entry ∷ past) n ≡ after = cond-true (is_open (status (entry ∷ past) n)) after 0 on in
-          let was = was_alive past entry n on in
           let stay : tx_size (entry ∷ past) n ≡ tx_size past n = (sizes_after starts past entry n below legal (open_socket (status (entry ∷ past) n) on)).tx n in
-          let fit = alive_fly starts past entry n legal (flight_within starts past n below legal.1) was.status in
-          let now : after ≤ tx_size past n =
-          subst (λ (l : ℕ). length (sent starts (entry ∷ past) n l) - taken (entry ∷ past) n l ≤ tx_size past n) (sym was.lives) fit in
+          let now : after ≤ tx_size past n = was_fly starts past entry n legal (flight_within starts past n below legal.1) (was_alive past entry n on).from in
           omega (arith, is, stay, now)
     ]
 
 -- A link supplies no more than is free of the RX buffer, where the bytes are kept.
-no_read_in_one : (b : Bool) (c : ConnId) (flight free : ℕ) (bytes : List ℕ) → answers_call (cond b (due.Write c) due.Nothing) flight free (Got bytes) ≡ false
-no_read_in_one true c flight free bytes = refl
-no_read_in_one false c flight free bytes = refl
+no_read_in : (b : Bool) (x y : Due) (flight free : ℕ) (bytes : List ℕ) → answers_call x flight free (Got bytes) ≡ false → answers_call y flight free (Got bytes) ≡ false
+    → answers_call (cond b x y) flight free (Got bytes) ≡ false
+no_read_in true x y flight free bytes h k = h
+no_read_in false x y flight free bytes h k = k
 
-no_read_in_two : (b shut : Bool) (c : ConnId) (flight free : ℕ) (bytes : List ℕ)
-    → answers_call (cond b (due.Write c) (cond shut due.Nothing (due.Shut c))) flight free (Got bytes) ≡ false
-no_read_in_two true shut c flight free bytes = refl
-no_read_in_two false true c flight free bytes = refl
-no_read_in_two false false c flight free bytes = refl
-
-no_read_out : (at : Status) (c : ConnId) (to : Addr) (flying : ℕ) (shut : Bool) (flight free : ℕ) (bytes : List ℕ)
-    → answers_call (outgoing_in at c to flying shut) flight free (Got bytes) ≡ false
-no_read_out Established c to flying shut flight free bytes = no_read_in_one (ltb 0 flying) c flight free bytes
-no_read_out CloseWait c to flying shut flight free bytes = no_read_in_one (ltb 0 flying) c flight free bytes
-no_read_out FinWait c to flying shut flight free bytes = no_read_in_two (ltb 0 flying) shut c flight free bytes
-no_read_out LastAck c to flying shut flight free bytes = no_read_in_two (ltb 0 flying) shut c flight free bytes
-no_read_out SynSent c to flying shut flight free bytes = refl
-no_read_out at c to flying shut flight free bytes = refl
+no_read_out : (at : Status) (c : ConnId) (to : Addr) (port flying : ℕ) (shut : Bool) (flight free : ℕ) (bytes : List ℕ)
+    → answers_call (outgoing_in at c to port flying shut) flight free (Got bytes) ≡ false
+no_read_out Established c to port flying shut flight free bytes = no_read_in (ltb 0 flying) (due.Write c) due.Nothing flight free bytes refl refl
+no_read_out CloseWait c to port flying shut flight free bytes = no_read_in (ltb 0 flying) (due.Write c) due.Nothing flight free bytes refl refl
+no_read_out Udp c to port flying shut flight free bytes = no_read_in (ltb 0 flying) (due.SendTo c port to) due.Nothing flight free bytes refl refl
+no_read_out FinWait c to port flying shut flight free bytes =
+    no_read_in (ltb 0 flying) (due.Write c) _ flight free bytes refl (no_read_in shut due.Nothing (due.Shut c) flight free bytes refl refl)
+no_read_out LastAck c to port flying shut flight free bytes =
+    no_read_in (ltb 0 flying) (due.Write c) _ flight free bytes refl (no_read_in shut due.Nothing (due.Shut c) flight free bytes refl refl)
+no_read_out SynSent c to port flying shut flight free bytes = refl
+no_read_out at c to port flying shut flight free bytes = refl
 
 no_read_old : (old : Option ℕ) (n : ℕ) (call : Due) (flight free : ℕ) (bytes : List ℕ) → answers_call call flight free (Got bytes) ≡ false
     → answers_call (elim old as (λ o. Due) [ None ↦ call | Some life ↦ due.Drop (connection n life) ]) flight free (Got bytes) ≡ false
@@ -163,34 +176,58 @@ read_old : (old : Option ℕ) (call : Due) (flight free : ℕ) (bytes : List ℕ
 read_old None call flight free bytes few h = few h
 read_old (Some life) call flight free bytes few h = cc
 
-got_limit : (starts : Starts) (past : Past) (n : ℕ) (what : LinkEntry) → is_established (status past n) ≡ true → fits starts past n what ≡ true
-    → length (bytes_of what) ≤ rx_free starts past n
-got_limit starts past n (Got bytes) on h =
+got_limit : (starts : Starts) (past : Past) (n : ℕ) (bytes : List ℕ) → is_established (status past n) ≡ true → fits starts past n (Got bytes) ≡ true
+    → length bytes ≤ rx_free starts past n
+got_limit starts past n bytes on h =
     let at = life past n in
     let fl = flight starts past n in
     let fr = rx_free starts past n in
+    let to = kept_address past n in
+    let port = kept_port past n in
     elim (or_cases (answers_call (outgoing starts past n) fl fr (Got bytes)) (answers_call (incoming starts past n) fl fr (Got bytes)) h) [
       | inl out ↦
-          let call = outgoing_in at.status (connection n at.lives) (connect_address past n) fl at.shut in
-          absurd (false≢true (sym (no_read_old at.old n call fl fr bytes (no_read_out at.status (connection n at.lives) (connect_address past n) fl at.shut fl fr bytes)) ∙ out))
+          let call = outgoing_in at.status (connection n at.lives) to port fl at.shut in
+          absurd (false≢true (sym (no_read_old at.old n call fl fr bytes (no_read_out at.status (connection n at.lives) to port fl at.shut fl fr bytes)) ∙ out))
       | inr in_ ↦
-          let call = incoming_in at.status (connection n at.lives) (listen_port past n) fr at.ended in
-          read_old at.old call fl fr bytes (read_in at.status (connection n at.lives) (listen_port past n) fr at.ended fl bytes on) in_
+          let call = incoming_in at.status (connection n at.lives) port fr at.ended in
+          read_old at.old call fl fr bytes (read_in at.status (connection n at.lives) port fr at.ended fl bytes on) in_
     ]
-got_limit starts past n what on h = omega arith
+
+-- So a link event puts no more into the buffer than is free of it.
+datagram_few : (b : Bool) (from : Addr) (body : List ℕ) (free : ℕ) → (b ≡ true → 8 + length body ≤ free) → length (cond b (header from (length body) ++ body) []) ≤ free
+datagram_few true from body free few =
+    let eight : length (header from (length body)) ≡ 8 = refl in
+    omega (arith, eight, length-append (header from (length body)) body, few refl)
+datagram_few false from body free few = omega arith
+
+put_few : (at : Status) (free : ℕ) (what : LinkEntry) → ((bytes : List ℕ) → what ≡ Got bytes → is_established at ≡ true → length bytes ≤ free) → length (put_by at free what) ≤ free
+put_few Established free (Got bytes) few = few bytes refl refl
+put_few Udp free (Datagram from body) few = datagram_few (leb (8 + length body) free) from body free (λ h. leb-true (8 + length body) free h)
+put_few at free what few = omega arith
 
 cond_reads : (takes : Bool) (before more : List ℕ) (free : ℕ) → (takes ≡ true → length more ≤ free) → length (cond takes (before ++ more) before) ≤ length before + free
 cond_reads true before more free few = omega (arith, length-append before more, few refl)
 cond_reads false before more free few = omega arith
 
-got_few : (starts : Starts) (past : Past) (m n : ℕ) (what : LinkEntry) → fits starts past m what ≡ true
-    → length (got (Link m what ∷ past) n (lives past n)) ≤ length (got past n (lives past n)) + rx_free starts past n
-got_few starts past m n what h =
-    cond_reads (is_of past m n (lives past n) && is_established (status past n)) (got past n (lives past n)) (bytes_of what) (rx_free starts past n)
-    (λ takes.
-    let p = and_parts (is_of past m n (lives past n)) (is_established (status past n)) takes in
-    let e = both_same m n (lives past n) (lives past n) p.0 in
-    got_limit starts past n what p.1 (subst (λ (k : ℕ). fits starts past k what ≡ true) e.0 h))
+-- What is free behind the received bytes of an open life is what is free of the buffer.
+pub free_open : (starts : Starts) (past : Past) (n : ℕ) → is_open (status past n) ≡ true
+    → free_behind starts past n (lives past n) (length (got starts past n (lives past n))) ≡ rx_free starts past n
+free_open starts past n on =
+    ap (λ (x : ℕ). rx_size past n - x) (sym (cond-true (is_open (status past n)) (length (got starts past n (lives past n)) - released starts past n (lives past n)) 0 on))
+
+got_few : (starts : Starts) (past : Past) (m n : ℕ) (what : LinkEntry) → fits starts past m what ≡ true → is_open (status past n) ≡ true
+    → length (got starts (Link m what ∷ past) n (lives past n)) ≤ length (got starts past n (lives past n)) + rx_free starts past n
+got_few starts past m n what h on =
+    let before = got starts past n (lives past n) in
+    let free = free_behind starts past n (lives past n) (length before) in
+    let same = free_open starts past n on in
+    let few = cond_reads (is_of past m n (lives past n)) before (put_by (status past n) free what) free
+    (λ takes. put_few (status past n) free what (λ bytes is established.
+    let e = both_same m n (lives past n) (lives past n) takes in
+    let may = subst (λ (w : LinkEntry). fits starts past n w ≡ true) is (subst (λ (k : ℕ). fits starts past k what ≡ true) e.0 h) in
+    let limit = got_limit starts past n bytes established may in
+    omega (arith, same, limit))) in
+    omega (arith, same, few)
 
 released_same : (starts : Starts) (past : Past) (n life : ℕ) (why : Cause) (before : ℕ) → (why ≡ because.Receive → ⊥) → released_by starts past n life why before ≡ before
 released_same starts past n life because.Receive before h = absurd (h refl)
@@ -201,52 +238,62 @@ released_more starts past n life because.Receive before = taken_more (is_open (s
 released_more starts past n life why before = omega arith
 
 open_reads : (starts : Starts) (past : Past) (entry : Entry) (n : ℕ) → Legal starts (entry ∷ past) → is_open (status past n) ≡ true → unread starts past n ≤ rx_size past n
-    → length (got (entry ∷ past) n (lives past n)) - released starts (entry ∷ past) n (lives past n) ≤ rx_size past n
+    → length (got starts (entry ∷ past) n (lives past n)) - released starts (entry ∷ past) n (lives past n) ≤ rx_size past n
 open_reads starts past (Link m what) n legal on fit =
-    let g = length (got past n (lives past n)) in
+    let g = length (got starts past n (lives past n)) in
     let r = released starts past n (lives past n) in
     let is : unread starts past n ≡ g - r = cond-true (is_open (status past n)) (g - r) 0 on in
     let same = released_same starts past n (lives past n) (cause past n (Link m what)) r (never_asks (eqb m n) what) in
-    let few = got_few starts past m n what legal.0.1 in
-    let now = more_fly g (length (got (Link m what ∷ past) n (lives past n))) r (rx_size past n) (released_within starts past n (lives past n) legal.1)
+    let few = got_few starts past m n what legal.0.1 on in
+    let now = more_fly g (length (got starts (Link m what ∷ past) n (lives past n))) r (rx_size past n) (released_within starts past n (lives past n) legal.1)
     (omega (arith, is, fit)) (omega (arith, is, few)) in
     omega (arith, same, now)
 open_reads starts past (Bus e a) n legal on fit =
-    let g = length (got past n (lives past n)) in
+    let g = length (got starts past n (lives past n)) in
     let r = released starts past n (lives past n) in
     let is : unread starts past n ≡ g - r = cond-true (is_open (status past n)) (g - r) 0 on in
     let more = released_more starts past n (lives past n) (cause past n (Bus e a)) r in
     omega (arith, is, fit, more)
 open_reads starts past Rest n legal on fit =
-    let g = length (got past n (lives past n)) in
+    let g = length (got starts past n (lives past n)) in
     let r = released starts past n (lives past n) in
     let is : unread starts past n ≡ g - r = cond-true (is_open (status past n)) (g - r) 0 on in
     omega (arith, is, fit)
 
 fresh_reads : (starts : Starts) (past : Past) (entry : Entry) (n size : ℕ) → is_fresh (status past n) ≡ true
-    → length (got (entry ∷ past) n (lives past n)) - released starts (entry ∷ past) n (lives past n) ≤ size
+    → length (got starts (entry ∷ past) n (lives past n)) - released starts (entry ∷ past) n (lives past n) ≤ size
 fresh_reads starts past entry n size fresh =
-    let none = ap length (got_fresh past entry n (lives past n) fresh ∙ fresh_got past n fresh) in
+    let none = ap length (got_fresh starts past entry n (lives past n) fresh ∙ fresh_got starts past n fresh) in
     omega (arith, none)
 
 alive_reads : (starts : Starts) (past : Past) (entry : Entry) (n : ℕ) → Legal starts (entry ∷ past) → unread starts past n ≤ rx_size past n
     → (is_open (status past n) ≡ true) ⊎ (is_fresh (status past n) ≡ true)
-    → length (got (entry ∷ past) n (lives past n)) - released starts (entry ∷ past) n (lives past n) ≤ rx_size past n
+    → length (got starts (entry ∷ past) n (lives past n)) - released starts (entry ∷ past) n (lives past n) ≤ rx_size past n
 alive_reads starts past entry n legal fit (inl on) = open_reads starts past entry n legal on fit
 alive_reads starts past entry n legal fit (inr fresh) = fresh_reads starts past entry n (rx_size past n) fresh
+
+-- In a life that begins nothing is received yet.
+pub begun_got : (starts : Starts) (past : Past) (entry : Entry) (n : ℕ) → got starts (entry ∷ past) n (lives past n + 1) ≡ []
+begun_got starts past entry n = got_other starts past entry n (lives past n + 1) (λ e. omega (arith, e)) ∙ unborn_got starts past n (lives past n + 1) (omega arith)
+
+was_read : (starts : Starts) (past : Past) (entry : Entry) (n : ℕ) → Legal starts (entry ∷ past) → unread starts past n ≤ rx_size past n
+    → ((lives (entry ∷ past) n ≡ lives past n) × ((is_open (status past n) ≡ true) ⊎ (is_fresh (status past n) ≡ true))) ⊎ (lives (entry ∷ past) n ≡ lives past n + 1)
+    → length (got starts (entry ∷ past) n (lives (entry ∷ past) n)) - released starts (entry ∷ past) n (lives (entry ∷ past) n) ≤ rx_size past n
+was_read starts past entry n legal fit (inl (same, was)) =
+    subst (λ (l : ℕ). length (got starts (entry ∷ past) n l) - released starts (entry ∷ past) n l ≤ rx_size past n) (sym same) (alive_reads starts past entry n legal fit was)
+was_read starts past entry n legal fit (inr begun) =
+    subst (λ (l : ℕ). length (got starts (entry ∷ past) n l) - released starts (entry ∷ past) n l ≤ rx_size past n) (sym begun)
+    (let none = ap length (begun_got starts past entry n) in omega (arith, none))
 
 pub unread_within : (starts : Starts) (past : Past) (n : ℕ) → n < 8 → Legal starts past → unread starts past n ≤ rx_size past n
 unread_within starts [] n below legal = omega arith
 unread_within starts (entry ∷ past) n below legal =
-    let after = length (got (entry ∷ past) n (lives (entry ∷ past) n)) - released starts (entry ∷ past) n (lives (entry ∷ past) n) in
+    let after = length (got starts (entry ∷ past) n (lives (entry ∷ past) n)) - released starts (entry ∷ past) n (lives (entry ∷ past) n) in
     elim (cases_Bool (is_open (status (entry ∷ past) n))) [
       | inr shut ↦ let none : unread starts (entry ∷ past) n ≡ 0 = cond-false (is_open (status (entry ∷ past) n)) after 0 shut in omega (arith, none)
       | inl on ↦
           let is : unread starts (entry ∷ past) n ≡ after = cond-true (is_open (status (entry ∷ past) n)) after 0 on in
-          let was = was_alive past entry n on in
           let stay : rx_size (entry ∷ past) n ≡ rx_size past n = (sizes_after starts past entry n below legal (open_socket (status (entry ∷ past) n) on)).rx n in
-          let fit = alive_reads starts past entry n legal (unread_within starts past n below legal.1) was.status in
-          let now : after ≤ rx_size past n =
-          subst (λ (l : ℕ). length (got (entry ∷ past) n l) - released starts (entry ∷ past) n l ≤ rx_size past n) (sym was.lives) fit in
+          let now : after ≤ rx_size past n = was_read starts past entry n legal (unread_within starts past n below legal.1) (was_alive past entry n on).from in
           omega (arith, is, stay, now)
     ]

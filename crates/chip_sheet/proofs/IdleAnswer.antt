@@ -1,7 +1,7 @@
 -- What a byte that makes no access is answered.
 use Rattle.std.proofs.Common.{◌≡◌, ℕ, Bool, true, false, cond, ap, ◌∙◌}
-use Rattle.chip_sheet.specs.declared.event.BusEvent.TheVariants.{Byte}
-use Rattle.chip_sheet.specs.declared.event.BusAnswer.TheVariants.{Out}
+use Rattle.board_bus.specs.declared.event.BusEvent.TheVariants.{Byte}
+use Rattle.board_bus.specs.declared.event.BusAnswer.TheVariants.{Out}
 use Rattle.chip_sheet.specs.declared.phase.Access.{Access}
 use Rattle.chip_sheet.specs.declared.phase.Access.TheVariants.{NoAccess}
 use Rattle.chip_sheet.specs.Past.{Past}

@@ -38,12 +38,12 @@ found_at at count zero addr j below fit h = absurd (omega arith)
 found_at at count (suc most) addr j below fit h = found_there at count (suc most) addr j below fit h
 
 pub reads_back : (starts : Starts) (past : Past) (n q addr : ℕ) → n < 8 → Legal starts past → is_open (status past n) ≡ true
-    → released starts past n (lives past n) ≤ q → q < length (got past n (lives past n))
+    → released starts past n (lives past n) ≤ q → q < length (got starts past n (lives past n))
     → addr % rx_size past n ≡ (rx_base starts past n (lives past n) + q) % rx_size past n
-    → rx_byte starts past n addr ≡ slice_index (got past n (lives past n)) q
+    → rx_byte starts past n addr ≡ slice_index (got starts past n (lives past n)) q
 reads_back starts past n q addr below legal on from to place =
     let r = released starts past n (lives past n) in
-    let g = length (got past n (lives past n)) in
+    let g = length (got starts past n (lives past n)) in
     let base = rx_base starts past n (lives past n) in
     let is : unread starts past n ≡ g - r = cond-true (is_open (status past n)) (g - r) 0 on in
     let fit = unread_within starts past n below legal in
@@ -51,4 +51,4 @@ reads_back starts past n q addr below legal on from to place =
     let position : base + r + (q - r) ≡ base + q = omega arith in
     let found = found_at (base + r) (unread starts past n) (rx_size past n) addr (q - r) (omega (arith, is)) fit
     (ap (λ (x : ℕ). x % rx_size past n) position ∙ sym place) in
-    ap (unread_byte starts past n) found ∙ ap (slice_index (got past n (lives past n))) back
+    ap (unread_byte starts past n) found ∙ ap (slice_index (got starts past n (lives past n))) back

@@ -7,7 +7,9 @@ use Rattle.chip_sheet.specs.declared.socket.Status.{Status}
 use Rattle.chip_sheet.specs.declared.socket.Status.TheVariants.{Closed}
 use Rattle.chip_sheet.specs.declared.socket.Cause.{Cause}
 use Rattle.chip_sheet.specs.declared.socket.Cause.TheVariants as because
-use Rattle.chip_sheet.specs.Past.{Past, Entry, Bus, Link, Rest}
+use Rattle.chip_sheet.specs.declared.event.Entry.{Entry}
+use Rattle.chip_sheet.specs.declared.event.Entry.TheVariants.{Bus, Link, Rest}
+use Rattle.chip_sheet.specs.Past.{Past}
 use Rattle.chip_sheet.specs.Frames.{access, access_of}
 use Rattle.chip_sheet.specs.Registers.{is_reset}
 use Rattle.chip_sheet.specs.Positions.{found_among}

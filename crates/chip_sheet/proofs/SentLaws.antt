@@ -3,7 +3,8 @@ use Rattle.std.proofs.Common.{◌≡◌, ℕ, Bool, true, false, cond, eqb, List
 use Rattle.std.proofs.lemmas.Bool.{cond-false, and_right, ne_eqb}
 use Rattle.chip_sheet.specs.declared.socket.Cause.{Cause}
 use Rattle.chip_sheet.specs.declared.socket.Cause.TheVariants as because
-use Rattle.chip_sheet.specs.Past.{Past, Entry, GoesOn}
+use Rattle.chip_sheet.specs.declared.event.Entry.{Entry}
+use Rattle.chip_sheet.specs.Past.{Past, GoesOn}
 use Rattle.chip_sheet.specs.Life.{cause, status, lives}
 use Rattle.chip_sheet.specs.Streams.{Starts, sent, sent_by, sends, takes_send}
 

@@ -1,7 +1,7 @@
 -- While a socket is not closed, the sizes of the buffers stay.
 use Rattle.std.proofs.Common.{◌≡◌, ◌<◌, ℕ, ◌*◌, Bool, true, false, not, ◌&&◌, ◌||◌, cond, eqb, List, [], ◌∷◌, map, Option, None, Some, inl, inr, refl, sym, ap, ◌∙◌, subst, ◌⊎◌}
 use Rattle.std.specs.Option.{unwrap_or, option_or}
-use Rattle.std.proofs.lemmas.Bool.{cases_Bool, and_parts, eqb-true, agree_below_at, or_right, or_left, not_from_false, false_from_ne_true}
+use Rattle.std.proofs.lemmas.Bool.{cases_Bool, and_parts, eqb-true, agree_below_at, or_right, or_left, not_from_false, false_from_ne_true, false≢true}
 use Rattle.chip_sheet.specs.declared.phase.Access.{Access}
 use Rattle.chip_sheet.specs.declared.phase.Access.TheVariants.{NoAccess, Read, Write}
 use Rattle.chip_sheet.specs.declared.block.Block.{Block}
@@ -11,14 +11,18 @@ use Rattle.chip_sheet.specs.declared.socket.Status.TheVariants.{Closed}
 use Rattle.chip_sheet.specs.declared.socket.Cause.{Cause}
 use Rattle.chip_sheet.specs.declared.socket.Cause.TheVariants as because
 use Rattle.chip_sheet.specs.declared.stop.ChipStop.TheVariants.{SizeWhileOpen}
-use Rattle.chip_sheet.specs.Past.{Past, Entry, Bus, Link, Rest, LinkEntry, Linked}
+use Rattle.chip_sheet.specs.declared.event.Entry.{Entry}
+use Rattle.chip_sheet.specs.declared.event.Entry.TheVariants.{Bus, Link, Rest}
+use Rattle.chip_sheet.specs.declared.event.LinkEntry.{LinkEntry}
+use Rattle.chip_sheet.specs.declared.event.LinkEntry.TheVariants.{Linked}
+use Rattle.chip_sheet.specs.Past.{Past}
 use Rattle.chip_sheet.specs.Frames.{access, access_of}
 use Rattle.chip_sheet.specs.Blocks.{sockets, block_of, registers_of}
 use Rattle.chip_sheet.specs.Registers.{is_reset, last_written, written_after}
-use Rattle.chip_sheet.specs.Life.{other_came, Life, life, life_after, next, cause, happening, status, is_closed}
+use Rattle.chip_sheet.specs.Life.{facts_of, Facts, Life, life, life_after, next, cause, happening, status, is_closed}
 use Rattle.chip_sheet.specs.Sizes.{kilobytes, size, are_valid, rx_sizes, tx_sizes, rx_size, tx_size, resizes, resizes_block}
 use Rattle.chip_sheet.specs.Streams.{Starts}
-use Rattle.chip_sheet.specs.Stops.{Writes, deed_of, size_while_open, any_open}
+use Rattle.chip_sheet.specs.Stops.{Writes, block_access, size_while_open, any_open}
 use Rattle.chip_sheet.specs.Legal.{Legal}
 use Rattle.chip_sheet.proofs.StopRows.{no_row, none_there, registers_block, commands}
 use Rattle.chip_sheet.proofs.ResetLaws.{reset_closes}
@@ -80,7 +84,7 @@ resizes_none past bits (Registers n) addr v h some =
     (none_there ((resizes_block past rx_sizes (Registers n) addr v || resizes_block past tx_sizes (Registers n) addr v) && any_open past sockets) (SizeWhileOpen n) h) some
 resizes_none past bits block addr v h some = (refl, refl)
 
-resizes_no : (past : Past) (made : Access) → size_while_open past (deed_of made) ≡ None → any_open past sockets ≡ true
+resizes_no : (past : Past) (made : Access) → size_while_open past (block_access made) ≡ None → any_open past sockets ≡ true
     → (resizes past rx_sizes made ≡ false) × (resizes past tx_sizes made ≡ false)
 resizes_no past (Write bits addr v) h some = resizes_none past bits (block_of bits) addr v h some
 resizes_no past made h some = (refl, refl)
@@ -110,7 +114,7 @@ some_open past m below on = open_listed past m sockets on (is_socket m below)
 
 resizes_entry : (starts : Starts) (past : Past) (entry : Entry) → Legal starts (entry ∷ past) → any_open past sockets ≡ true
     → (resizes past rx_sizes (access_of past entry) ≡ false) × (resizes past tx_sizes (access_of past entry) ≡ false)
-resizes_entry starts past (Bus e a) legal some = resizes_no past (access past e) (no_row starts past (deed_of (access past e)) legal.0.0).size some
+resizes_entry starts past (Bus e a) legal some = resizes_no past (access past e) (no_row starts past (block_access (access past e)) legal.0.0).size some
 resizes_entry starts past (Link m what) legal some = (refl, refl)
 resizes_entry starts past Rest legal some = (refl, refl)
 
@@ -122,37 +126,62 @@ sizes_before starts past entry m below legal on kept =
     record { tx = λ k. size_kept past entry tx_sizes k kept none.1; rx = λ k. size_kept past entry rx_sizes k kept none.0 }
 
 -- An entry that leaves a socket open: it found it so, or it opened it.
-next_closed : (why : Cause) (both : Bool) → (why ≡ because.Open → ⊥) → next Closed why both ≡ Closed
-next_closed because.Open both not_open = absurd (not_open refl)
-next_closed why both not_open = refl
+is_opening : Cause → Bool
+is_opening because.OpenTcp = true
+is_opening because.OpenUdp = true
+is_opening why = false
 
-closed_life : (at : Life) (why : Cause) → (why ≡ because.Open → ⊥) → (life_after at why).status ≡ next at.status why (other_came why at)
-closed_life at because.Open not_open = absurd (not_open refl)
-closed_life at why not_open = refl
+next_closed : (why : Cause) (facts : Facts) → is_opening why ≡ false → next Closed why facts ≡ Closed
+unfolding is_opening
+next_closed because.OpenTcp facts other = cc
+next_closed because.OpenUdp facts other = cc
+next_closed why facts other = refl
 
-closed_stays : (at : Life) (why : Cause) → at.status ≡ Closed → (why ≡ because.Open → ⊥) → (life_after at why).status ≡ Closed
-closed_stays at why closed not_open =
-    closed_life at why not_open ∙ ap (λ (s : Status). next s why (other_came why at)) closed ∙ next_closed why _ not_open
+closed_life : (at : Life) (why : Cause) → is_opening why ≡ false → (life_after at why).status ≡ next at.status why (facts_of why at)
+unfolding is_opening
+closed_life at because.OpenTcp other = cc
+closed_life at because.OpenUdp other = cc
+closed_life at why other = refl
 
-never_opens : (what : LinkEntry) → happening what ≡ because.Open → ⊥
-never_opens Linked h = cc
-never_opens what h = cc
+closed_stays : (at : Life) (why : Cause) → at.status ≡ Closed → is_opening why ≡ false → (life_after at why).status ≡ Closed
+closed_stays at why closed other =
+    closed_life at why other ∙ ap (λ (s : Status). next s why (facts_of why at)) closed ∙ next_closed why _ other
 
-link_opens : (b : Bool) (what : LinkEntry) → cond b (happening what) because.Nothing ≡ because.Open → ⊥
-link_opens true what h = never_opens what h
-link_opens false what h = cc
+no_link : (asked : Cause) (what : LinkEntry) → is_opening asked ≡ true → happening what ≡ asked → ⊥
+unfolding is_opening
+no_link because.OpenTcp Linked opens h = cc
+no_link because.OpenTcp what opens h = cc
+no_link because.OpenUdp Linked opens h = cc
+no_link because.OpenUdp what opens h = cc
+no_link asked what opens h = cc
+
+link_opens : (b : Bool) (asked : Cause) (what : LinkEntry) → is_opening asked ≡ true → cond b (happening what) because.Nothing ≡ asked → ⊥
+unfolding is_opening
+link_opens true asked what opens h = no_link asked what opens h
+link_opens false because.OpenTcp what opens h = cc
+link_opens false because.OpenUdp what opens h = cc
+link_opens false asked what opens h = cc
+
+no_reset_opens : (asked : Cause) → is_opening asked ≡ true → because.Reset ≡ asked → ⊥
+unfolding is_opening
+no_reset_opens asked opens h = false≢true (ap is_opening h ∙ opens)
+
+nothing_opens : (asked : Cause) → is_opening asked ≡ true → because.Nothing ≡ asked → ⊥
+unfolding is_opening
+nothing_opens asked opens h = false≢true (ap is_opening h ∙ opens)
 
 resizes_command : (past : Past) (m v : ℕ) → (resizes past rx_sizes (Write (registers_of m) 0x01 v) ≡ false) × (resizes past tx_sizes (Write (registers_of m) 0x01 v) ≡ false)
 resizes_command past m v =
     (ap (λ (b : Block). resizes_block past rx_sizes b 0x01 v) (registers_block m), ap (λ (b : Block). resizes_block past tx_sizes b 0x01 v) (registers_block m))
 
-resizes_open : (past : Past) (entry : Entry) (m : ℕ) → cause past m entry ≡ because.Open
+resizes_open : (past : Past) (entry : Entry) (m : ℕ) → is_opening (cause past m entry) ≡ true
     → (resizes past rx_sizes (access_of past entry) ≡ false) × (resizes past tx_sizes (access_of past entry) ≡ false)
 resizes_open past (Bus e a) m h =
-    let it = commands past m (access past e) because.Open (λ e. cc) (λ e. cc) h in
+    let asked = cause past m (Bus e a) in
+    let it = commands past m (access past e) asked (no_reset_opens asked h) (nothing_opens asked h) refl in
     subst (λ (made : Access). (resizes past rx_sizes made ≡ false) × (resizes past tx_sizes made ≡ false)) (sym it.is) (resizes_command past m it.byte)
-resizes_open past (Link k what) m h = absurd (link_opens (eqb k m) what h)
-resizes_open past Rest m h = cc
+resizes_open past (Link k what) m h = absurd (link_opens (eqb k m) (cause past m (Link k what)) what h refl)
+resizes_open past Rest m h = absurd (nothing_opens because.Nothing h refl)
 
 open_is : (at : Status) → is_closed at ≡ false → at ≡ Closed → ⊥
 open_is Closed h same = cc
@@ -162,18 +191,14 @@ closed_is : (at : Status) → is_closed at ≡ true → at ≡ Closed
 closed_is Closed h = refl
 closed_is at h = cc
 
-opening_cases : (why : Cause) → (why ≡ because.Open) ⊎ (why ≡ because.Open → ⊥)
-opening_cases because.Open = inl refl
-opening_cases why = inr (λ h. cc)
-
 resizes_after : (starts : Starts) (past : Past) (entry : Entry) (m : ℕ) → m < 8 → Legal starts (entry ∷ past) → is_closed (status (entry ∷ past) m) ≡ false
     → (resizes past rx_sizes (access_of past entry) ≡ false) × (resizes past tx_sizes (access_of past entry) ≡ false)
 resizes_after starts past entry m below legal on =
     elim (cases_Bool (is_closed (status past m))) [
       | inr before ↦ resizes_entry starts past entry legal (some_open past m below before)
-      | inl closed ↦ elim (opening_cases (cause past m entry)) [
+      | inl closed ↦ elim (cases_Bool (is_opening (cause past m entry))) [
         | inl opens ↦ resizes_open past entry m opens
-        | inr not_open ↦ absurd (open_is _ on (closed_stays (life past m) (cause past m entry) (closed_is _ closed) not_open))
+        | inr other ↦ absurd (open_is _ on (closed_stays (life past m) (cause past m entry) (closed_is _ closed) other))
       ]
     ]
 

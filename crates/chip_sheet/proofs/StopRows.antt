@@ -1,5 +1,5 @@
 -- What an event without a stop and a link event that fits say, row by row.
-use Rattle.std.proofs.Common.{◌≡◌, ℕ, ◌+◌, ◌*◌, ◌/◌, ◌%◌, Bool, true, false, ◌&&◌, cond, eqb, List, [], ◌∷◌, Option, None, Some, refl, ap, ◌∙◌, arith}
+use Rattle.std.proofs.Common.{◌≡◌, ℕ, ◌+◌, ◌*◌, ◌/◌, ◌%◌, Bool, true, false, ◌&&◌, cond, eqb, List, [], ◌∷◌, Option, None, Some, refl, sym, ap, ◌∙◌, arith}
 use Rattle.std.proofs.lemmas.Bool.{and_parts, eqb-true, ne_eqb, eq-eqb, cond-true, cond-false}
 use Rattle.chip_sheet.specs.declared.phase.Access.{Access}
 use Rattle.chip_sheet.specs.declared.phase.Access.TheVariants.{NoAccess, Read, Write}
@@ -10,48 +10,63 @@ use Rattle.chip_sheet.specs.declared.stop.ChipStop.{ChipStop}
 use Rattle.chip_sheet.specs.Past.{Past}
 use Rattle.chip_sheet.specs.Blocks.{block_of, registers_of}
 use Rattle.chip_sheet.specs.Registers.{is_reset}
-use Rattle.chip_sheet.specs.Life.{cause_by, command, protocol}
+use Rattle.chip_sheet.specs.Life.{cause_by, command, opening, protocol}
 use Rattle.chip_sheet.specs.Streams.{Starts}
-use Rattle.chip_sheet.specs.Stops.{Deed, first, deed_of, stop_by, where_it, reserved_block, pppoe, send_mac, raw_ethernet, size_while_open, bad_buffer_size, overwrite_in_flight, send_too_long, recv_past_end}
+use Rattle.chip_sheet.specs.Stops.{BlockAccess, Writes, first, block_access, stop_by, where_it, reserved_block, pppoe, size_while_open, overwrite_in_flight, refused_command, CommandFacts, command_stop, command_facts, send_mac, raw_ethernet, multicast, bad_buffer_size, send_busy, send_too_long, recv_past_end}
 
--- No row stops a deed.
-pub record NoRow (starts : Starts) (past : Past) (deed : Deed) : Type 0 where
-  pub size : size_while_open past deed ≡ None
-  pub overwrite : overwrite_in_flight starts past deed ≡ None
-  pub sizes : bad_buffer_size past deed ≡ None
-  pub send : send_too_long starts past deed ≡ None
-  pub recv : recv_past_end starts past deed ≡ None
+-- No row stops an access.
+pub record NoRow (starts : Starts) (past : Past) (made : BlockAccess) : Type 0 where
+  pub size : size_while_open past made ≡ None
+  pub overwrite : overwrite_in_flight starts past made ≡ None
+  pub command : refused_command starts past made ≡ None
 
 first_none : (row : Option ChipStop) (more : List (Option ChipStop)) → first (row ∷ more) ≡ None → (row ≡ None) × (first more ≡ None)
 first_none None more h = (refl, h)
 first_none (Some stop) more h = cc
 
--- Of nine rows none stops.
-record NoneOf (a b c d e f g h i : Option ChipStop) : Type 0 where
+-- Of five rows none stops.
+record NoneOf (a b c d e : Option ChipStop) : Type 0 where
   third : c ≡ None
   fourth : d ≡ None
-  seventh : g ≡ None
-  eighth : h ≡ None
-  ninth : i ≡ None
+  fifth : e ≡ None
 
-none_of : (a b c d e f g h i : Option ChipStop) → first (a ∷ b ∷ c ∷ d ∷ e ∷ f ∷ g ∷ h ∷ i ∷ []) ≡ None → NoneOf a b c d e f g h i
-none_of a b c d e f g h i all =
-    let from_b = first_none a (b ∷ c ∷ d ∷ e ∷ f ∷ g ∷ h ∷ i ∷ []) all in
-    let from_c = first_none b (c ∷ d ∷ e ∷ f ∷ g ∷ h ∷ i ∷ []) from_b.1 in
-    let from_d = first_none c (d ∷ e ∷ f ∷ g ∷ h ∷ i ∷ []) from_c.1 in
-    let from_e = first_none d (e ∷ f ∷ g ∷ h ∷ i ∷ []) from_d.1 in
-    let from_f = first_none e (f ∷ g ∷ h ∷ i ∷ []) from_e.1 in
-    let from_g = first_none f (g ∷ h ∷ i ∷ []) from_f.1 in
-    let from_h = first_none g (h ∷ i ∷ []) from_g.1 in
-    let from_i = first_none h (i ∷ []) from_h.1 in
-    let end = first_none i [] from_i.1 in
-    record { third = from_d.0; fourth = from_e.0; seventh = from_h.0; eighth = from_i.0; ninth = end.0 }
+none_of : (a b c d e : Option ChipStop) → first (a ∷ b ∷ c ∷ d ∷ e ∷ []) ≡ None → NoneOf a b c d e
+none_of a b c d e all =
+    let from_b = first_none a (b ∷ c ∷ d ∷ e ∷ []) all in
+    let from_c = first_none b (c ∷ d ∷ e ∷ []) from_b.1 in
+    let from_d = first_none c (d ∷ e ∷ []) from_c.1 in
+    let from_e = first_none d (e ∷ []) from_d.1 in
+    let end = first_none e [] from_e.1 in
+    record { third = from_d.0; fourth = from_e.0; fifth = end.0 }
 
-pub no_row : (starts : Starts) (past : Past) (deed : Deed) → stop_by starts past deed ≡ None → NoRow starts past deed
-no_row starts past deed h =
-    let none = none_of (reserved_block deed) (pppoe deed) (size_while_open past deed) (overwrite_in_flight starts past deed) (send_mac deed) (raw_ethernet past deed)
-    (bad_buffer_size past deed) (send_too_long starts past deed) (recv_past_end starts past deed) h in
-    record { size = none.third; overwrite = none.fourth; sizes = none.seventh; send = none.eighth; recv = none.ninth }
+pub no_row : (starts : Starts) (past : Past) (made : BlockAccess) → stop_by starts past made ≡ None → NoRow starts past made
+no_row starts past made h =
+    let none = none_of (reserved_block made) (pppoe made) (size_while_open past made) (overwrite_in_flight starts past made) (refused_command starts past made) h in
+    record { size = none.third; overwrite = none.fourth; command = none.fifth }
+
+-- No row stops a command.
+pub record NoCommandRow (n : ℕ) (facts : CommandFacts) (v : ℕ) : Type 0 where
+  pub many : multicast n facts.status facts.mode v ≡ None
+  pub sizes : bad_buffer_size n facts.status facts.mode facts.valid v ≡ None
+  pub busy : send_busy n facts.status facts.flight v ≡ None
+  pub send : send_too_long n facts.status facts.len facts.free v ≡ None
+  pub recv : recv_past_end n facts.status facts.asked facts.there v ≡ None
+
+none_of_seven : (a b c d e f g : Option ChipStop) → first (a ∷ b ∷ c ∷ d ∷ e ∷ f ∷ g ∷ []) ≡ None → (c ≡ None) × (d ≡ None) × (e ≡ None) × (f ≡ None) × (g ≡ None)
+none_of_seven a b c d e f g all =
+    let from_b = first_none a (b ∷ c ∷ d ∷ e ∷ f ∷ g ∷ []) all in
+    let from_c = first_none b (c ∷ d ∷ e ∷ f ∷ g ∷ []) from_b.1 in
+    let rest = none_of c d e f g from_c.1 in
+    let from_d = first_none c (d ∷ e ∷ f ∷ g ∷ []) from_c.1 in
+    let from_e = first_none d (e ∷ f ∷ g ∷ []) from_d.1 in
+    (from_d.0, from_e.0, rest.third, rest.fourth, rest.fifth)
+
+pub no_command_row : (n : ℕ) (facts : CommandFacts) (v : ℕ) → command_stop n facts v ≡ None → NoCommandRow n facts v
+no_command_row n facts v h =
+    let none = none_of_seven (send_mac n v) (raw_ethernet n facts.status facts.mode v) (multicast n facts.status facts.mode v)
+    (bad_buffer_size n facts.status facts.mode facts.valid v) (send_busy n facts.status facts.flight v)
+    (send_too_long n facts.status facts.len facts.free v) (recv_past_end n facts.status facts.asked facts.there v) h in
+    record { many = none.0; sizes = none.1; busy = none.2; send = none.3; recv = none.4 }
 
 pub none_there : (b : Bool) (stop : ChipStop) → where_it b stop ≡ None → b ≡ false
 none_there true stop h = cc
@@ -100,44 +115,58 @@ commands past n (Write block addr v) asked other none h =
     let addr_is = eqb-true addr 0x01 at.1 in
     record { byte = v; is = rw (block_is, addr_is) refl; asks = there.1 }
 
--- Which byte SEND is, and which RECV.
-send_test : (a p b c d e s r : Bool)
-    → cond a (cond p because.Open because.Nothing) (cond b because.Listen (cond c because.Connect (cond d because.Disconnect (cond e because.Close (cond s because.Send (cond r because.Receive because.Nothing)))))) ≡ because.Send → s ≡ true
-send_test true true b c d e s r h = cc
-send_test true false b c d e s r h = cc
-send_test false p true c d e s r h = cc
-send_test false p false true d e s r h = cc
-send_test false p false false true e s r h = cc
-send_test false p false false false true s r h = cc
-send_test false p false false false false true r h = refl
-send_test false p false false false false false true h = cc
-send_test false p false false false false false false h = cc
+-- OPEN asks for nothing else.
+opening_is : (p q : Bool) (asked : Cause) → (because.OpenTcp ≡ asked → ⊥) → (because.OpenUdp ≡ asked → ⊥) → (because.Nothing ≡ asked → ⊥)
+    → cond p because.OpenTcp (cond q because.OpenUdp because.Nothing) ≡ asked → ⊥
+opening_is true q asked tcp udp none h = tcp h
+opening_is false true asked tcp udp none h = udp h
+opening_is false false asked tcp udp none h = none h
 
-recv_test : (a p b c d e s r : Bool)
-    → cond a (cond p because.Open because.Nothing) (cond b because.Listen (cond c because.Connect (cond d because.Disconnect (cond e because.Close (cond s because.Send (cond r because.Receive because.Nothing)))))) ≡ because.Receive → r ≡ true
-recv_test true true b c d e s r h = cc
-recv_test true false b c d e s r h = cc
-recv_test false p true c d e s r h = cc
-recv_test false p false true d e s r h = cc
-recv_test false p false false true e s r h = cc
-recv_test false p false false false true s r h = cc
-recv_test false p false false false false true r h = cc
-recv_test false p false false false false false true h = refl
-recv_test false p false false false false false false h = cc
+-- Which byte SEND is, and which RECV.
+send_test : (a b c d e s r : Bool) (o : Cause) → (o ≡ because.Send → ⊥)
+    → cond a o (cond b because.Listen (cond c because.Connect (cond d because.Disconnect (cond e because.Close (cond s because.Send (cond r because.Receive because.Nothing)))))) ≡ because.Send → s ≡ true
+send_test true b c d e s r o other h = absurd (other h)
+send_test false true c d e s r o other h = cc
+send_test false false true d e s r o other h = cc
+send_test false false false true e s r o other h = cc
+send_test false false false false true s r o other h = cc
+send_test false false false false false true r o other h = refl
+send_test false false false false false false true o other h = cc
+send_test false false false false false false false o other h = cc
+
+recv_test : (a b c d e s r : Bool) (o : Cause) → (o ≡ because.Receive → ⊥)
+    → cond a o (cond b because.Listen (cond c because.Connect (cond d because.Disconnect (cond e because.Close (cond s because.Send (cond r because.Receive because.Nothing)))))) ≡ because.Receive → r ≡ true
+recv_test true b c d e s r o other h = absurd (other h)
+recv_test false true c d e s r o other h = cc
+recv_test false false true d e s r o other h = cc
+recv_test false false false true e s r o other h = cc
+recv_test false false false false true s r o other h = cc
+recv_test false false false false false true r o other h = cc
+recv_test false false false false false false true o other h = refl
+recv_test false false false false false false false o other h = cc
 
 pub send_byte : (protocol v : ℕ) → command protocol v ≡ because.Send → v ≡ 0x20
-send_byte protocol v h = eqb-true v 0x20 (send_test _ _ _ _ _ _ (eqb v 0x20) _ h)
+send_byte protocol v h =
+    eqb-true v 0x20 (send_test _ _ _ _ _ (eqb v 0x20) _ (opening protocol) (opening_is (eqb protocol 1) (eqb protocol 2) because.Send (λ e. cc) (λ e. cc) (λ e. cc)) h)
 
 pub recv_byte : (protocol v : ℕ) → command protocol v ≡ because.Receive → v ≡ 0x40
-recv_byte protocol v h = eqb-true v 0x40 (recv_test _ _ _ _ _ _ _ (eqb v 0x40) h)
+recv_byte protocol v h =
+    eqb-true v 0x40 (recv_test _ _ _ _ _ _ (eqb v 0x40) (opening protocol) (opening_is (eqb protocol 1) (eqb protocol 2) because.Receive (λ e. cc) (λ e. cc) (λ e. cc)) h)
 
--- The deed of a command.
-pub send_deed : (past : Past) (n : ℕ) (made : Access) → cause_by past n made ≡ because.Send → deed_of made ≡ deed_of (Write (registers_of n) 0x01 0x20)
-send_deed past n made h =
+-- Which access SEND is, and which RECV.
+pub send_access : (past : Past) (n : ℕ) (made : Access) → cause_by past n made ≡ because.Send → made ≡ Write (registers_of n) 0x01 0x20
+send_access past n made h =
     let it = commands past n made because.Send (λ e. cc) (λ e. cc) h in
-    ap deed_of (it.is ∙ ap (Write (registers_of n) 0x01) (send_byte (protocol past n) it.byte it.asks))
+    it.is ∙ ap (Write (registers_of n) 0x01) (send_byte (protocol past n) it.byte it.asks)
 
-pub recv_deed : (past : Past) (n : ℕ) (made : Access) → cause_by past n made ≡ because.Receive → deed_of made ≡ deed_of (Write (registers_of n) 0x01 0x40)
-recv_deed past n made h =
+pub recv_access : (past : Past) (n : ℕ) (made : Access) → cause_by past n made ≡ because.Receive → made ≡ Write (registers_of n) 0x01 0x40
+recv_access past n made h =
     let it = commands past n made because.Receive (λ e. cc) (λ e. cc) h in
-    ap deed_of (it.is ∙ ap (Write (registers_of n) 0x01) (recv_byte (protocol past n) it.byte it.asks))
+    it.is ∙ ap (Write (registers_of n) 0x01) (recv_byte (protocol past n) it.byte it.asks)
+
+-- A command without a stop meets none of its rows.
+pub free_command : (starts : Starts) (past : Past) (n : ℕ) (made : Access) (v : ℕ) → made ≡ Write (registers_of n) 0x01 v
+    → stop_by starts past (block_access made) ≡ None → NoCommandRow n (command_facts starts past n) v
+free_command starts past n made v is clear =
+    let same = ap block_access is ∙ ap (λ b. Writes (registers_of n) b 0x01 v) (registers_block n) in
+    no_command_row n (command_facts starts past n) v (sym (ap (refused_command starts past) same) ∙ (no_row starts past (block_access made) clear).command)

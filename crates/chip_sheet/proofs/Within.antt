@@ -8,44 +8,47 @@ use Rattle.chip_sheet.specs.declared.socket.Due.{Due}
 use Rattle.chip_sheet.specs.declared.socket.Due.TheVariants as due
 use Rattle.chip_sheet.specs.declared.stop.ChipStop.{ChipStop}
 use Rattle.chip_sheet.specs.declared.stop.ChipStop.TheVariants.{SendTooLong, RecvPastEnd}
-use Rattle.chip_sheet.specs.Past.{Past, Entry, Bus, Link, Rest, LinkEntry, Linked, Took}
+use Rattle.chip_sheet.specs.declared.event.Entry.{Entry}
+use Rattle.chip_sheet.specs.declared.event.Entry.TheVariants.{Bus, Link, Rest}
+use Rattle.chip_sheet.specs.declared.event.LinkEntry.{LinkEntry}
+use Rattle.chip_sheet.specs.declared.event.LinkEntry.TheVariants.{Linked, Took}
+use Rattle.chip_sheet.specs.Past.{Past}
 use Rattle.chip_sheet.specs.Frames.{access}
 use Rattle.chip_sheet.specs.Blocks.{registers_of}
 use Rattle.chip_sheet.specs.Life.{cause, cause_by, happening, status, lives}
 use Rattle.chip_sheet.specs.Streams.{Starts, sent, range_length, sends, taken, taken_by, is_open, got, bytes_of, released, released_by, release_length}
 use Rattle.chip_sheet.specs.Windows.{flight, unread, tx_free, rx_free}
-use Rattle.chip_sheet.specs.Stops.{Writes, deed_of, stop_by, where_it, send_too_long, recv_past_end}
+use Rattle.chip_sheet.specs.Stops.{block_access, stop_by}
 use Rattle.chip_sheet.specs.LinkCalls.{outgoing, incoming, answers_call, fits}
 use Rattle.chip_sheet.specs.Legal.{Legal}
 use Rattle.chip_sheet.proofs.SentLaws.{IsLonger, cond_longer, sent_longer}
-use Rattle.chip_sheet.proofs.StopRows.{no_row, none_there, registers_block, send_deed, recv_deed}
+use Rattle.chip_sheet.proofs.StopRows.{none_there, free_command, send_access, recv_access}
 
 -- A SEND without a stop takes no more than is free, and a RECV goes no further than the unread bytes.
-limit_of : (b : Bool) (free asked : ℕ) (stop : ChipStop) → b ≡ true
-    → elim b as (λ t. Option ChipStop) [ true ↦ where_it (ltb free asked) stop | false ↦ None ] ≡ None → asked ≤ free
-limit_of true free asked stop h k = ltb-false free asked (none_there _ stop k)
-limit_of false free asked stop h k = cc
+last_false : (a b c : Bool) → (a && b && c) ≡ false → a ≡ true → b ≡ true → c ≡ false
+last_false true true c h k l = h
+last_false true false c h k l = cc
+last_false false b c h k l = cc
 
 pub send_within : (starts : Starts) (past : Past) (n : ℕ) (made : Access) → cause_by past n made ≡ because.Send → sends (status past n) ≡ true
-    → stop_by starts past (deed_of made) ≡ None → range_length starts past n (length (sent starts past n (lives past n))) ≤ tx_free starts past n
+    → stop_by starts past (block_access made) ≡ None → range_length starts past n (length (sent starts past n (lives past n))) ≤ tx_free starts past n
 send_within starts past n made why takes clear =
     let len = range_length starts past n (length (sent starts past n (lives past n))) in
     let free = tx_free starts past n in
-    let same = send_deed past n made why ∙ ap (λ b. Writes (registers_of n) b 0x01 0x20) (registers_block n) in
-    limit_of (sends (status past n)) free len (SendTooLong n len free) takes
-    (sym (ap (send_too_long starts past) same) ∙ (no_row starts past (deed_of made) clear).send)
+    let row = (free_command starts past n made 0x20 (send_access past n made why) clear).send in
+    ltb-false free len (last_false true (sends (status past n)) (ltb free len) (none_there _ (SendTooLong n len free) row) refl takes)
 
 pub recv_within : (starts : Starts) (past : Past) (n : ℕ) (made : Access) → cause_by past n made ≡ because.Receive → is_open (status past n) ≡ true
-    → stop_by starts past (deed_of made) ≡ None → release_length starts past n (released starts past n (lives past n)) ≤ unread starts past n
+    → stop_by starts past (block_access made) ≡ None → release_length starts past n (released starts past n (lives past n)) ≤ unread starts past n
 recv_within starts past n made why takes clear =
     let asked = release_length starts past n (released starts past n (lives past n)) in
     let there = unread starts past n in
-    let same = recv_deed past n made why ∙ ap (λ b. Writes (registers_of n) b 0x01 0x40) (registers_block n) in
-    limit_of (is_open (status past n)) there asked (RecvPastEnd n asked there) takes
-    (sym (ap (recv_past_end starts past) same) ∙ (no_row starts past (deed_of made) clear).recv)
+    let row = (free_command starts past n made 0x40 (recv_access past n made why) clear).recv in
+    ltb-false there asked (last_false true (is_open (status past n)) (ltb there asked) (none_there _ (RecvPastEnd n asked there) row) refl takes)
 
 -- A link takes no more than is in flight.
 took_limit : (call : Due) (flight free count : ℕ) → answers_call call flight free (Took count) ≡ true → count ≤ flight
+took_limit (due.SendTo c port to) flight free count h = let e = eqb-true count flight h in omega (arith, e)
 took_limit (due.Write c) flight free count h = leb-true count flight (and_parts (leb 1 count) (leb count flight) h).1
 took_limit call flight free count h = cc
 
@@ -92,10 +95,10 @@ pub never_asks : (b : Bool) (what : LinkEntry) → cond b (happening what) becau
 never_asks true what h = never_happens what h
 never_asks false what h = cc
 
-pub got_longer : (past : Past) (entry : Entry) (n life : ℕ) → IsLonger (got past n life) (got (entry ∷ past) n life)
-got_longer past (Link m what) n life = cond_longer _ _ (bytes_of what)
-got_longer past (Bus e a) n life = ([], sym (append-nil (got past n life)))
-got_longer past Rest n life = ([], sym (append-nil (got past n life)))
+pub got_longer : (starts : Starts) (past : Past) (entry : Entry) (n life : ℕ) → IsLonger (got starts past n life) (got starts (entry ∷ past) n life)
+got_longer starts past (Link m what) n life = cond_longer _ _ _
+got_longer starts past (Bus e a) n life = ([], sym (append-nil (got starts past n life)))
+got_longer starts past Rest n life = ([], sym (append-nil (got starts past n life)))
 
 released_one : (live same : Bool) (r g step : ℕ) → r ≤ g → (same ≡ true → live ≡ true → step ≤ cond live (g - r) 0) → cond (live && same) (r + step) r ≤ g
 released_one true true r g step h few = omega (arith, few refl refl)
@@ -104,16 +107,16 @@ released_one false same r g step h few = h
 
 released_by_within : (starts : Starts) (past : Past) (n life : ℕ) (why : Cause)
     → (why ≡ because.Receive → is_open (status past n) ≡ true → release_length starts past n (released starts past n (lives past n)) ≤ unread starts past n)
-    → released starts past n life ≤ length (got past n life)
-    → released_by starts past n life why (released starts past n life) ≤ length (got past n life)
+    → released starts past n life ≤ length (got starts past n life)
+    → released_by starts past n life why (released starts past n life) ≤ length (got starts past n life)
 released_by_within starts past n life because.Receive few h =
     released_one (is_open (status past n)) (eqb (lives past n) life) _ _ _ h
     (λ same live. subst
-    (λ (l : ℕ). release_length starts past n (released starts past n l) ≤ cond (is_open (status past n)) (length (got past n l) - released starts past n l) 0)
+    (λ (l : ℕ). release_length starts past n (released starts past n l) ≤ cond (is_open (status past n)) (length (got starts past n l) - released starts past n l) 0)
     (eqb-true (lives past n) life same) (few refl live))
 released_by_within starts past n life why few h = h
 
-pub released_within : (starts : Starts) (past : Past) (n life : ℕ) → Legal starts past → released starts past n life ≤ length (got past n life)
+pub released_within : (starts : Starts) (past : Past) (n life : ℕ) → Legal starts past → released starts past n life ≤ length (got starts past n life)
 released_within starts [] n life h = omega arith
 released_within starts (Bus e a ∷ past) n life (may, h) =
     released_by_within starts past n life (cause past n (Bus e a)) (λ why takes. recv_within starts past n (access past e) why takes may.0) (released_within starts past n life h)
@@ -121,6 +124,6 @@ released_within starts (Rest ∷ past) n life (may, h) = released_within starts 
 released_within starts (Link m what ∷ past) n life (may, h) =
     omega (
       arith,
-      longer_length _ _ (got_longer past (Link m what) n life),
+      longer_length _ _ (got_longer starts past (Link m what) n life),
       released_by_within starts past n life (cause past n (Link m what)) (λ e. absurd (never_asks (eqb m n) what e)) (released_within starts past n life h),
     )

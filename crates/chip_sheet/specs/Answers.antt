@@ -1,20 +1,21 @@
 -- What the chip answers.
 use Rattle.std.specs.Prelude.{ℕ, true, false, not, ◌==◌, if◌then◌else◌}
-use Rattle.chip_sheet.specs.declared.event.BusEvent.{BusEvent}
-use Rattle.chip_sheet.specs.declared.event.BusEvent.TheVariants.{Select, Byte, Look}
-use Rattle.chip_sheet.specs.declared.event.BusAnswer.{BusAnswer}
-use Rattle.chip_sheet.specs.declared.event.BusAnswer.TheVariants.{Done, Out, Level}
+use Rattle.board_bus.specs.declared.event.BusEvent.{BusEvent}
+use Rattle.board_bus.specs.declared.event.BusEvent.TheVariants.{Select, Byte, Look}
+use Rattle.board_bus.specs.declared.event.BusAnswer.{BusAnswer}
+use Rattle.board_bus.specs.declared.event.BusAnswer.TheVariants.{Done, Out, Level}
 use Rattle.chip_sheet.specs.declared.phase.Access.{Access}
 use Rattle.chip_sheet.specs.declared.phase.Access.TheVariants.{NoAccess, Read, Write}
 use Rattle.chip_sheet.specs.declared.block.Block.{Block}
 use Rattle.chip_sheet.specs.declared.block.Block.TheVariants.{Common, Registers, TxBuffer, RxBuffer, Reserved}
 use Rattle.chip_sheet.specs.Past.{Past}
 use Rattle.chip_sheet.specs.Frames.{access, is_low}
+use Rattle.chip_sheet.specs.Names.{sir}
 use Rattle.chip_sheet.specs.Blocks.{block_of}
 use Rattle.chip_sheet.specs.Registers.{common_register}
 use Rattle.chip_sheet.specs.Streams.{Starts, tx_byte}
 use Rattle.chip_sheet.specs.Windows.{rx_byte}
-use Rattle.chip_sheet.specs.Interrupts.{sir, interrupt_low}
+use Rattle.chip_sheet.specs.Interrupts.{sir_register, interrupt_low}
 use Rattle.chip_sheet.specs.SocketBlock.{socket_register}
 
 -- The byte on MISO during a byte that makes no access: FF while the select line is high, and 00 in the address and control
@@ -22,9 +23,9 @@ use Rattle.chip_sheet.specs.SocketBlock.{socket_register}
 abbrev pub idle_byte : Past → ℕ
 idle_byte past = if is_low past then 0x00 else 0xFF
 
--- What an address of the common register block reads: SIR, 0017, shows which sockets ask for an interrupt.
+-- What an address of the common register block reads: SIR shows which sockets ask for an interrupt.
 abbrev pub common_byte : Starts → Past → ℕ → ℕ
-common_byte starts past addr = elim (addr == 0x17) [ true ↦ sir starts past | false ↦ common_register past addr ]
+common_byte starts past addr = elim (addr == sir) [ true ↦ sir_register starts past | false ↦ common_register past addr ]
 
 -- What an address of a block reads. A reserved block is never read: the board stops.
 abbrev pub byte_at : Starts → Past → Block → ℕ → ℕ

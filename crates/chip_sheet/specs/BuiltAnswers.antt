@@ -1,12 +1,13 @@
 -- What the chip as it is built so far answers: it has no sockets.
 use Rattle.std.specs.Prelude.{ℕ, true, ◌∷◌}
-use Rattle.chip_sheet.specs.declared.event.BusEvent.{BusEvent}
-use Rattle.chip_sheet.specs.declared.event.BusEvent.TheVariants.{Select, Byte, Look}
-use Rattle.chip_sheet.specs.declared.event.BusAnswer.{BusAnswer}
-use Rattle.chip_sheet.specs.declared.event.BusAnswer.TheVariants.{Done, Out, Level}
+use Rattle.board_bus.specs.declared.event.BusEvent.{BusEvent}
+use Rattle.board_bus.specs.declared.event.BusEvent.TheVariants.{Select, Byte, Look}
+use Rattle.board_bus.specs.declared.event.BusAnswer.{BusAnswer}
+use Rattle.board_bus.specs.declared.event.BusAnswer.TheVariants.{Done, Out, Level}
 use Rattle.chip_sheet.specs.declared.phase.Access.{Access}
 use Rattle.chip_sheet.specs.declared.phase.Access.TheVariants.{NoAccess, Read, Write}
-use Rattle.chip_sheet.specs.Past.{Past, Bus}
+use Rattle.chip_sheet.specs.declared.event.Entry.TheVariants.{Bus}
+use Rattle.chip_sheet.specs.Past.{Past}
 use Rattle.chip_sheet.specs.Frames.{access}
 use Rattle.chip_sheet.specs.Registers.{common_register}
 use Rattle.chip_sheet.specs.Answers.{idle_byte}

@@ -1,6 +1,8 @@
 -- Histories of the chip as it is built so far.
 use Rattle.std.specs.Prelude.{◌≡◌, None, [], ◌∷◌}
-use Rattle.chip_sheet.specs.Past.{Past, Entry, Bus, Link, Rest}
+use Rattle.chip_sheet.specs.declared.event.Entry.{Entry}
+use Rattle.chip_sheet.specs.declared.event.Entry.TheVariants.{Bus, Link, Rest}
+use Rattle.chip_sheet.specs.Past.{Past}
 use Rattle.chip_sheet.specs.BuiltAnswers.{built_answer}
 use Rattle.chip_sheet.specs.BuiltStops.{unbuilt}
 

@@ -1,6 +1,6 @@
 -- Where the chip as it is built so far answers nothing: it has the common register block alone.
 use Rattle.std.specs.Prelude.{◌/◌, ◌%◌, ◌==◌, ◌&&◌, nat_lt, Option, Some, None, if◌then◌else◌}
-use Rattle.chip_sheet.specs.declared.event.BusEvent.{BusEvent}
+use Rattle.board_bus.specs.declared.event.BusEvent.{BusEvent}
 use Rattle.chip_sheet.specs.declared.stop.Unbuilt.{Unbuilt}
 use Rattle.chip_sheet.specs.declared.stop.Unbuilt.TheVariants.{NotBuilt}
 use Rattle.chip_sheet.specs.declared.phase.Access.{Access}

@@ -1,5 +1,6 @@
 -- The common register block, block 0 (W5500 datasheet, 3.1 and 4.1), to be laid beside the datasheet's table.
 use Rattle.std.specs.Prelude.{ℕ, ◌+◌, ◌-◌, ◌&&◌, nat_le, nat_lt, List, [], ◌∷◌, length, slice_index, if◌then◌else◌}
+use Rattle.chip_sheet.specs.Names.{mr, gar, subr, shar, sipr, intlevel, ir, imr, sir, simr, rtr, rcr, ptimer, pmagic, phar, psid, pmru, uipr, uportr, phycfgr, versionr}
 
 -- What a register does with a byte that is written to it.
 pub data Rule : Type 0 where
@@ -20,51 +21,52 @@ abbrev register : ℕ → List ℕ → Rule → Register
 register place reset rule = record { place = place; reset = reset; rule = rule }
 
 -- A register of several bytes has its high byte at the lower place. IR never shows a bit, since unreachable ports, address
--- conflicts, PPPoE and magic packets are not modelled, and SIR shows none as long as there are no sockets.
+-- conflicts, PPPoE and magic packets are not modelled. SIR
+-- stands here with its value after a reset; what it reads is said in `Interrupts`.
 abbrev pub common_registers : List Register
 common_registers =
-    -- MR, mode
-    register 0x0000 (0x00 ∷ []) Stored ∷
-    -- GAR, gateway address
-    register 0x0001 (0x00 ∷ 0x00 ∷ 0x00 ∷ 0x00 ∷ []) Stored ∷
-    -- SUBR, subnet mask
-    register 0x0005 (0x00 ∷ 0x00 ∷ 0x00 ∷ 0x00 ∷ []) Stored ∷
-    -- SHAR, source hardware address
-    register 0x0009 (0x00 ∷ 0x00 ∷ 0x00 ∷ 0x00 ∷ 0x00 ∷ 0x00 ∷ []) Stored ∷
-    -- SIPR, source address
-    register 0x000F (0x00 ∷ 0x00 ∷ 0x00 ∷ 0x00 ∷ []) Stored ∷
-    -- INTLEVEL, interrupt assert wait time
-    register 0x0013 (0x00 ∷ 0x00 ∷ []) Stored ∷
-    -- IR, interrupt
-    register 0x0015 (0x00 ∷ []) ReadOnly ∷
-    -- IMR, interrupt mask
-    register 0x0016 (0x00 ∷ []) Stored ∷
-    -- SIR, socket interrupt
-    register 0x0017 (0x00 ∷ []) ReadOnly ∷
-    -- SIMR, socket interrupt mask
-    register 0x0018 (0x00 ∷ []) Stored ∷
-    -- RTR, retransmission time
-    register 0x0019 (0x07 ∷ 0xD0 ∷ []) Stored ∷
-    -- RCR, retransmission count
-    register 0x001B (0x08 ∷ []) Stored ∷
-    -- PTIMER, PPP link control protocol request timer
-    register 0x001C (0x28 ∷ []) Stored ∷
-    -- PMAGIC, PPP link control protocol magic number
-    register 0x001D (0x00 ∷ []) Stored ∷
-    -- PHAR, PPP destination hardware address
-    register 0x001E (0x00 ∷ 0x00 ∷ 0x00 ∷ 0x00 ∷ 0x00 ∷ 0x00 ∷ []) Stored ∷
-    -- PSID, PPP session identification
-    register 0x0024 (0x00 ∷ 0x00 ∷ []) Stored ∷
-    -- PMRU, PPP maximum segment size
-    register 0x0026 (0xFF ∷ 0xFF ∷ []) Stored ∷
-    -- UIPR, unreachable address
-    register 0x0028 (0x00 ∷ 0x00 ∷ 0x00 ∷ 0x00 ∷ []) ReadOnly ∷
-    -- UPORTR, unreachable port
-    register 0x002C (0x00 ∷ 0x00 ∷ []) ReadOnly ∷
-    -- PHYCFGR, PHY configuration
-    register 0x002E (0xBF ∷ []) LinkUp ∷
-    -- VERSIONR, chip version
-    register 0x0039 (0x04 ∷ []) ReadOnly ∷
+    -- mode
+    register mr (0x00 ∷ []) Stored ∷
+    -- gateway address
+    register gar (0x00 ∷ 0x00 ∷ 0x00 ∷ 0x00 ∷ []) Stored ∷
+    -- subnet mask
+    register subr (0x00 ∷ 0x00 ∷ 0x00 ∷ 0x00 ∷ []) Stored ∷
+    -- source hardware address
+    register shar (0x00 ∷ 0x00 ∷ 0x00 ∷ 0x00 ∷ 0x00 ∷ 0x00 ∷ []) Stored ∷
+    -- source address
+    register sipr (0x00 ∷ 0x00 ∷ 0x00 ∷ 0x00 ∷ []) Stored ∷
+    -- interrupt assert wait time
+    register intlevel (0x00 ∷ 0x00 ∷ []) Stored ∷
+    -- interrupt
+    register ir (0x00 ∷ []) ReadOnly ∷
+    -- interrupt mask
+    register imr (0x00 ∷ []) Stored ∷
+    -- socket interrupt
+    register sir (0x00 ∷ []) ReadOnly ∷
+    -- socket interrupt mask
+    register simr (0x00 ∷ []) Stored ∷
+    -- retransmission time
+    register rtr (0x07 ∷ 0xD0 ∷ []) Stored ∷
+    -- retransmission count
+    register rcr (0x08 ∷ []) Stored ∷
+    -- PPP link control protocol request timer
+    register ptimer (0x28 ∷ []) Stored ∷
+    -- PPP link control protocol magic number
+    register pmagic (0x00 ∷ []) Stored ∷
+    -- PPP destination hardware address
+    register phar (0x00 ∷ 0x00 ∷ 0x00 ∷ 0x00 ∷ 0x00 ∷ 0x00 ∷ []) Stored ∷
+    -- PPP session identification
+    register psid (0x00 ∷ 0x00 ∷ []) Stored ∷
+    -- PPP maximum segment size
+    register pmru (0xFF ∷ 0xFF ∷ []) Stored ∷
+    -- unreachable address
+    register uipr (0x00 ∷ 0x00 ∷ 0x00 ∷ 0x00 ∷ []) ReadOnly ∷
+    -- unreachable port
+    register uportr (0x00 ∷ 0x00 ∷ []) ReadOnly ∷
+    -- PHY configuration
+    register phycfgr (0xBF ∷ []) LinkUp ∷
+    -- chip version
+    register versionr (0x04 ∷ []) ReadOnly ∷
     []
 
 -- One place of a block: what it reads after a reset, and its rule.

@@ -2,13 +2,15 @@
 -- then data bytes. The control byte has the block select in bits 7..3, read (0) or write (1) in bit 2 and the length
 -- mode in bits 1..0.
 use Rattle.std.specs.Prelude.{ℕ, ◌+◌, ◌*◌, ◌/◌, ◌%◌, zero, suc, Bool, false, true, ◌==◌, ◌&&◌, nat_lt, nat_le, List, [], ◌∷◌, ◌++◌, length, drop, slice_index, if◌then◌else◌}
-use Rattle.chip_sheet.specs.declared.event.BusEvent.{BusEvent}
-use Rattle.chip_sheet.specs.declared.event.BusEvent.TheVariants.{Select, Byte, Look}
+use Rattle.board_bus.specs.declared.event.BusEvent.{BusEvent}
+use Rattle.board_bus.specs.declared.event.BusEvent.TheVariants.{Select, Byte, Look}
 use Rattle.chip_sheet.specs.declared.phase.Access.{Access}
 use Rattle.chip_sheet.specs.declared.phase.Access.TheVariants.{NoAccess, Read, Write}
 use Rattle.chip_sheet.specs.declared.phase.Phase.{Phase}
 use Rattle.chip_sheet.specs.declared.phase.Phase.TheVariants.{Idle, Address, Control, Body}
-use Rattle.chip_sheet.specs.Past.{Past, Entry, Bus, Link, Rest}
+use Rattle.chip_sheet.specs.declared.event.Entry.{Entry}
+use Rattle.chip_sheet.specs.declared.event.Entry.TheVariants.{Bus, Link, Rest}
+use Rattle.chip_sheet.specs.Past.{Past}
 
 -- The select line is low exactly where the last change of it says so. It starts high.
 abbrev pub is_low : Past → Bool

@@ -1,21 +1,24 @@
 -- Interrupts (W5500 datasheet, 4.2 Sn_IR and Sn_IMR, 4.1 SIR and SIMR). The moments at which a bit rises are this profile's own.
-use Rattle.std.specs.Prelude.{ℕ, ◌+◌, ◌*◌, ◌/◌, ◌%◌, Bool, true, false, not, ◌==◌, ◌&&◌, ◌||◌, nat_lt, List, [], ◌∷◌, length, unwrap_or, if◌then◌else◌}
+use Rattle.std.specs.Prelude.{ℕ, ◌+◌, ◌*◌, Bool, true, false, not, ◌==◌, ◌&&◌, ◌||◌, nat_lt, List, [], ◌∷◌, length, unwrap_or, if◌then◌else◌}
 use Rattle.chip_sheet.specs.declared.phase.Access.{Access}
 use Rattle.chip_sheet.specs.declared.phase.Access.TheVariants.{NoAccess, Read, Write}
 use Rattle.chip_sheet.specs.declared.socket.Status.{Status}
-use Rattle.chip_sheet.specs.declared.socket.Status.TheVariants.{Closed, Init, Listen, SynSent, Established, FinWait}
+use Rattle.chip_sheet.specs.declared.socket.Status.TheVariants.{Closed, Init, Listen, SynSent, Established, FinWait, Udp}
 use Rattle.chip_sheet.specs.declared.socket.Cause.{Cause}
 use Rattle.chip_sheet.specs.declared.socket.Cause.TheVariants as because
 use Rattle.chip_sheet.specs.declared.socket.Interrupt.{Interrupt}
 use Rattle.chip_sheet.specs.declared.socket.Interrupt.TheVariants.{Connected, Disconnected, Received, TimedOut, SendOk}
-use Rattle.chip_sheet.specs.Past.{Past, Entry}
+use Rattle.chip_sheet.specs.declared.event.Entry.{Entry}
+use Rattle.chip_sheet.specs.Past.{Past}
 use Rattle.chip_sheet.specs.Frames.{access_of}
+use Rattle.chip_sheet.specs.Bits.{has_bit}
+use Rattle.chip_sheet.specs.Names.{sn_ir, sn_imr, simr}
 use Rattle.chip_sheet.specs.Blocks.{sockets, registers_of}
 use Rattle.chip_sheet.specs.Registers.{is_reset, last_written}
 use Rattle.chip_sheet.specs.Life.{cause, status, lives}
 use Rattle.chip_sheet.specs.Positions.{has_between}
-use Rattle.chip_sheet.specs.Streams.{Starts, sent, ends, taken, range_length, sends, is_open}
-use Rattle.chip_sheet.specs.Windows.{unread}
+use Rattle.chip_sheet.specs.Streams.{Starts, sent, ends, taken, range_length, sends, is_open, has_place}
+use Rattle.chip_sheet.specs.Windows.{unread, rx_free}
 
 -- The bits of Sn_IR, and the value of each.
 abbrev pub interrupts : List Interrupt
@@ -27,10 +30,6 @@ bit_value Disconnected = 2
 bit_value Received = 4
 bit_value TimedOut = 8
 bit_value SendOk = 16
-
--- A byte has this bit.
-abbrev pub has_bit : ℕ → ℕ → Bool
-has_bit byte value = byte / value % 2 == 1
 
 -- What happens in a status raises a bit by the table of socket life.
 abbrev pub raised_by_life : Cause → Interrupt → Status → Bool
@@ -44,10 +43,11 @@ raised_by_life because.Failed TimedOut Init = false
 raised_by_life because.Failed TimedOut status = true
 raised_by_life why bit status = false
 
--- RECV rises when bytes are put into the buffer, and at a RECV after which bytes remain. SENDOK rises at a SEND of no bytes, and
--- when the taken count reaches or passes the end of a SEND.
+-- RECV rises when bytes are put into the buffer, a datagram only where it fits, and at a RECV after which bytes remain. SENDOK rises
+-- at a SEND of no bytes, and when the taken count reaches or passes the end of a SEND.
 abbrev pub raised_by_bytes : Starts → Past → ℕ → Entry → Cause → Interrupt → Status → Bool
 raised_by_bytes starts past n entry because.Got Received Established = true
+raised_by_bytes starts past n entry (because.Datagram count) Received Udp = has_place count (rx_free starts past n)
 raised_by_bytes starts past n entry because.Receive Received status =
     is_open status && nat_lt 0 (unread starts (entry ∷ past) n)
 raised_by_bytes starts past n entry because.Send SendOk status =
@@ -62,12 +62,21 @@ raised_by starts past n bit entry =
     raised_by_life (cause past n entry) bit (status past n)
     || raised_by_bytes starts past n entry (cause past n entry) bit (status past n)
 
+-- The bits that an entry raises, as a byte.
+abbrev pub bits_by : Starts → Past → ℕ → Entry → List Interrupt → ℕ
+bits_by starts past n entry [] = 0
+bits_by starts past n entry (bit ∷ more) =
+    (if raised_by starts past n bit entry then bit_value bit else 0) + bits_by starts past n entry more
+
+abbrev pub interrupts_by : Starts → Past → ℕ → Entry → ℕ
+interrupts_by starts past n entry = bits_by starts past n entry interrupts
+
 -- A reset, or a write of Sn_IR with this bit 1 (datasheet, 4.2 Sn_IR).
 abbrev pub clears : Access → ℕ → Interrupt → Bool
 clears NoAccess n bit = false
 clears (Read block addr) n bit = false
 clears (Write block addr v) n bit =
-    is_reset (Write block addr v) || (block == registers_of n && addr == 0x02 && has_bit v (bit_value bit))
+    is_reset (Write block addr v) || (block == registers_of n && addr == sn_ir && has_bit v (bit_value bit))
 
 -- A bit of Sn_IR is raised: an entry raised it, and none cleared it since. The mask Sn_IMR has no part in it.
 abbrev pub raised : Starts → Past → ℕ → Interrupt → Bool
@@ -86,7 +95,7 @@ interrupt_register starts past n = sum_of starts past n interrupts
 
 -- The mask Sn_IMR: FF after a reset.
 abbrev pub mask : Past → ℕ → ℕ
-mask past n = unwrap_or (last_written past (registers_of n) 0x2C) 0xFF
+mask past n = unwrap_or (last_written past (registers_of n) sn_imr) 0xFF
 
 abbrev pub any_masked_in : Starts → Past → ℕ → List Interrupt → Bool
 any_masked_in starts past n [] = false
@@ -103,15 +112,19 @@ sir_from starts past (n ∷ more) value =
     (if asks starts past n then value else 0) + sir_from starts past more (2 * value)
 
 -- What SIR reads: bit n for socket n (datasheet, 4.1 SIR).
-abbrev pub sir : Starts → Past → ℕ
-sir starts past = sir_from starts past sockets 1
+abbrev pub sir_register : Starts → Past → ℕ
+sir_register starts past = sir_from starts past sockets 1
+
+-- The mask SIMR: 00 after a reset.
+abbrev pub enabled_sockets : Past → ℕ
+enabled_sockets past = unwrap_or (last_written past 0 simr) 0x00
 
 abbrev pub any_enabled : Starts → Past → List ℕ → ℕ → ℕ → Bool
-any_enabled starts past [] simr value = false
-any_enabled starts past (n ∷ more) simr value =
-    (has_bit simr value && asks starts past n) || any_enabled starts past more simr (2 * value)
+any_enabled starts past [] enabled value = false
+any_enabled starts past (n ∷ more) enabled value =
+    (has_bit enabled value && asks starts past n) || any_enabled starts past more enabled (2 * value)
 
 -- INTn is low exactly where a socket asks whose bit is 1 in SIMR (datasheet, 4.1 SIMR): IR shows no bit in this profile, so
 -- it has no part.
 abbrev pub interrupt_low : Starts → Past → Bool
-interrupt_low starts past = any_enabled starts past sockets (unwrap_or (last_written past 0 0x18) 0x00) 1
+interrupt_low starts past = any_enabled starts past sockets (enabled_sockets past) 1

@@ -1,6 +1,8 @@
 -- Histories that the datasheet allows.
 use Rattle.std.specs.Prelude.{◌≡◌, ◌<◌, ℕ, suc, true, None, Some, [], ◌∷◌, drop, slice_get}
-use Rattle.chip_sheet.specs.Past.{Past, Entry, Bus, Link, Rest}
+use Rattle.chip_sheet.specs.declared.event.Entry.{Entry}
+use Rattle.chip_sheet.specs.declared.event.Entry.TheVariants.{Bus, Link, Rest}
+use Rattle.chip_sheet.specs.Past.{Past}
 use Rattle.chip_sheet.specs.Streams.{Starts}
 use Rattle.chip_sheet.specs.Answers.{answer}
 use Rattle.chip_sheet.specs.Stops.{stop}

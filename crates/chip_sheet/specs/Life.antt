@@ -1,31 +1,46 @@
 -- The life of a socket (W5500 datasheet, 4.2 Sn_CR and Sn_SR, figure 4 state diagram; the rules on links are this profile's own).
-use Rattle.std.specs.Prelude.{ℕ, ◌+◌, ◌%◌, Bool, true, false, not, ◌==◌, ◌&&◌, ◌||◌, [], ◌∷◌, Option, Some, None, unwrap_or, if◌then◌else◌}
+use Rattle.std.specs.Prelude.{ℕ, ◌+◌, ◌%◌, Bool, true, false, not, ◌==◌, ◌&&◌, ◌||◌, [], ◌∷◌, length, Option, Some, None, unwrap_or, if◌then◌else◌}
 use Rattle.chip_sheet.specs.declared.phase.Access.{Access}
 use Rattle.chip_sheet.specs.declared.phase.Access.TheVariants.{NoAccess, Read, Write}
 use Rattle.chip_sheet.specs.declared.socket.Status.{Status}
-use Rattle.chip_sheet.specs.declared.socket.Status.TheVariants.{Closed, Init, Listen, SynSent, Established, FinWait, CloseWait, LastAck}
+use Rattle.chip_sheet.specs.declared.socket.Status.TheVariants.{Closed, Init, Listen, SynSent, Established, FinWait, CloseWait, LastAck, Udp}
 use Rattle.chip_sheet.specs.declared.socket.Cause.{Cause}
 use Rattle.chip_sheet.specs.declared.socket.Cause.TheVariants as because
-use Rattle.chip_sheet.specs.Past.{Past, Entry, Bus, Link, Rest, LinkEntry, Linked, Accepted, Refused, TimedOut, Took, Got, Datagram, Ended, Shut, Failed, Dropped}
+use Rattle.chip_sheet.specs.declared.event.Entry.{Entry}
+use Rattle.chip_sheet.specs.declared.event.Entry.TheVariants.{Bus, Link, Rest}
+use Rattle.chip_sheet.specs.declared.event.LinkEntry.{LinkEntry}
+use Rattle.chip_sheet.specs.declared.event.LinkEntry.TheVariants.{Linked, Accepted, Refused, TimedOut, Took, Got, Datagram, Ended, Shut, Failed, Dropped}
+use Rattle.chip_sheet.specs.Past.{Past}
 use Rattle.chip_sheet.specs.Frames.{access_of}
+use Rattle.chip_sheet.specs.Names.{sn_mr, sn_cr, tcp, udp, open_command, listen_command, connect_command, discon_command, close_command, send_command, recv_command}
 use Rattle.chip_sheet.specs.Blocks.{registers_of}
-use Rattle.chip_sheet.specs.Registers.{is_reset, last_written}
+use Rattle.chip_sheet.specs.Registers.{is_reset, written}
 
--- The protocol in the mode register Sn_MR, bits 3..0 (datasheet, 4.2 Sn_MR).
+-- What the mode register Sn_MR holds, and the protocol in its bits 3..0 (datasheet, 4.2 Sn_MR).
+abbrev pub mode : Past → ℕ → ℕ
+mode past n = written past n sn_mr
+
+abbrev pub protocol_of : ℕ → ℕ
+protocol_of mode = mode % 16
+
 abbrev pub protocol : Past → ℕ → ℕ
-protocol past n = unwrap_or (last_written past (registers_of n) 0x00) 0x00 % 16
+protocol past n = protocol_of (mode past n)
+
+-- What OPEN asks of a socket with this protocol. Nothing but TCP and UDP is opened: MACRAW stops the board.
+abbrev pub opening : ℕ → Cause
+opening protocol = if protocol == tcp then because.OpenTcp else (if protocol == udp then because.OpenUdp else because.Nothing)
 
 -- What a command byte asks of a socket with this protocol (datasheet, 4.2 Sn_CR). SEND_KEEP and values that are no command do
--- nothing, nor does OPEN with a protocol that is not built or unknown; SEND_MAC and MACRAW stop the board.
+-- nothing; SEND_MAC stops the board.
 abbrev pub command : ℕ → ℕ → Cause
 command protocol v =
-    if v == 0x01 then (if protocol == 1 then because.Open else because.Nothing) else
-    (if v == 0x02 then because.Listen else
-    (if v == 0x04 then because.Connect else
-    (if v == 0x08 then because.Disconnect else
-    (if v == 0x10 then because.Close else
-    (if v == 0x20 then because.Send else
-    (if v == 0x40 then because.Receive else because.Nothing))))))
+    if v == open_command then opening protocol else
+    (if v == listen_command then because.Listen else
+    (if v == connect_command then because.Connect else
+    (if v == discon_command then because.Disconnect else
+    (if v == close_command then because.Close else
+    (if v == send_command then because.Send else
+    (if v == recv_command then because.Receive else because.Nothing))))))
 
 -- What an access is for socket n: a reset of the chip, or a command, which is accepted within the byte that writes it (this
 -- profile's own).
@@ -34,9 +49,9 @@ cause_by past n NoAccess = because.Nothing
 cause_by past n (Read block addr) = because.Nothing
 cause_by past n (Write block addr v) =
     if is_reset (Write block addr v) then because.Reset else
-    (if block == registers_of n && addr == 0x01 then command (protocol past n) v else because.Nothing)
+    (if block == registers_of n && addr == sn_cr then command (protocol past n) v else because.Nothing)
 
--- What a link event is for its own socket. Datagrams come with UDP.
+-- What a link event is for its own socket.
 abbrev pub happening : LinkEntry → Cause
 happening Linked = because.Linked
 happening (Accepted from) = because.Accepted
@@ -44,7 +59,7 @@ happening Refused = because.Refused
 happening TimedOut = because.TimedOut
 happening (Took count) = because.Took count
 happening (Got bytes) = because.Got
-happening (Datagram from bytes) = because.Nothing
+happening (Datagram from body) = because.Datagram (length body)
 happening Ended = because.Ended
 happening Shut = because.Shut
 happening Failed = because.Failed
@@ -56,50 +71,68 @@ cause past n (Bus e a) = cause_by past n (access_of past (Bus e a))
 cause past n (Link m what) = if m == n then happening what else because.Nothing
 cause past n Rest = because.Nothing
 
--- The table of socket life: status, what happens, and the next status; the first line that fits counts, and where none does the
--- status stays. `both` says that the other of Ended and Shut came before in this life.
-abbrev pub row : Status → Cause → Bool → Option Status
--- a reset of the chip closes every socket
-row status because.Reset both = Some Closed
--- OPEN with the protocol TCP begins a new life
-row Closed because.Open both = Some Init
-row Init because.Listen both = Some Listen
-row Init because.Connect both = Some SynSent
-row Listen because.Accepted both = Some Established
-row SynSent because.Linked both = Some Established
-row SynSent because.Refused both = Some Closed
-row SynSent because.TimedOut both = Some Closed
-row Established because.Ended both = Some CloseWait
-row Established because.Disconnect both = Some FinWait
-row CloseWait because.Disconnect both = Some LastAck
-row FinWait because.Ended both = Some (if both then Closed else FinWait)
-row FinWait because.Shut both = Some (if both then Closed else FinWait)
-row LastAck because.Shut both = Some Closed
--- in all but CLOSED
-row Closed other both = None
-row status because.Close both = Some Closed
--- in all but CLOSED and INIT
-row Init other both = None
-row status because.Failed both = Some Closed
-row status other both = None
+-- What the table of socket life looks at beside a status and what happens.
+pub record Facts : Type 0 where
+  -- the other of Ended and Shut came before in this life
+  pub both : Bool
 
--- The status after something happened.
-abbrev pub next : Status → Cause → Bool → Status
-next status why both = unwrap_or (row status why both) status
+-- A table of socket life: status, what happens, facts, and the next status, where a line fits.
+abbrev pub Table : Type 0
+Table = Status → Cause → Facts → Option Status
+
+-- The table of socket life; the first line that fits counts, and where none does the status stays.
+abbrev pub row : Table
+-- a reset of the chip closes every socket
+row status because.Reset facts = Some Closed
+-- OPEN with the protocol TCP or UDP begins a new life
+row Closed because.OpenTcp facts = Some Init
+row Closed because.OpenUdp facts = Some Udp
+row Init because.Listen facts = Some Listen
+row Init because.Connect facts = Some SynSent
+row Listen because.Accepted facts = Some Established
+row SynSent because.Linked facts = Some Established
+row SynSent because.Refused facts = Some Closed
+row SynSent because.TimedOut facts = Some Closed
+row Established because.Ended facts = Some CloseWait
+row Established because.Disconnect facts = Some FinWait
+row CloseWait because.Disconnect facts = Some LastAck
+row FinWait because.Ended facts = Some (if facts.both then Closed else FinWait)
+row FinWait because.Shut facts = Some (if facts.both then Closed else FinWait)
+row LastAck because.Shut facts = Some Closed
+-- in all but CLOSED
+row Closed other facts = None
+row status because.Close facts = Some Closed
+-- in all but CLOSED and INIT
+row Init other facts = None
+row status because.Failed facts = Some Closed
+row status other facts = None
+
+-- The status after something happened, by a table.
+abbrev pub next_by : Table → Status → Cause → Facts → Status
+next_by table status why facts = unwrap_or (table status why facts) status
+
+abbrev pub next : Status → Cause → Facts → Status
+next status why facts = next_by row status why facts
 
 -- A new life begins: OPEN is accepted.
 abbrev pub begins : Cause → Status → Bool
-begins because.Open Closed = true
+begins because.OpenTcp Closed = true
+begins because.OpenUdp Closed = true
 begins why status = false
 
 abbrev pub is_closed : Status → Bool
 is_closed Closed = true
 is_closed status = false
 
--- In these statuses the link is asked for a connection.
+abbrev pub is_udp : Status → Bool
+is_udp Udp = true
+is_udp status = false
+
+-- In these statuses the link is asked for a connection or for datagrams.
 abbrev pub asks_link : Status → Bool
 asks_link Listen = true
 asks_link SynSent = true
+asks_link Udp = true
 asks_link status = false
 
 abbrev pub is_end : Cause → Bool
@@ -137,6 +170,9 @@ other_came because.Ended life = life.shut
 other_came because.Shut life = life.ended
 other_came why life = false
 
+abbrev pub facts_of : Cause → Life → Facts
+facts_of why life = record { both = other_came why life }
+
 -- The number of a life that closes now, where the link was asked in it.
 abbrev pub closing : Life → Status → Option ℕ
 closing life after = if not (is_closed life.status) && is_closed after && life.asked then Some life.lives else None
@@ -152,18 +188,34 @@ lives_on life why after = record {
   old = old_after why (closing life after) life.old;
 }
 
--- A new life, in INIT. A reset restores nothing of this: the numbers of lives go on (this profile's own).
-abbrev pub new_life : Life → Life
-new_life life = record { status = Init; lives = life.lives + 1; ended = false; shut = false; asked = false; old = life.old }
+-- A new life, in the status that OPEN leads to. A reset restores nothing of this: the numbers of lives go on (this profile's own).
+abbrev pub new_life : Life → Status → Life
+new_life life after = record {
+  status = after;
+  lives = life.lives + 1;
+  ended = false;
+  shut = false;
+  asked = asks_link after;
+  old = life.old;
+}
 
+abbrev pub life_after_by : Table → Life → Cause → Life
+life_after_by table life why =
+    let after = next_by table life.status why (facts_of why life) in
+    if begins why life.status then new_life life after else lives_on life why after
+
+-- A socket once one more thing happened to it.
 abbrev pub life_after : Life → Cause → Life
-life_after life why =
-    if begins why life.status then new_life life else lives_on life why (next life.status why (other_came why life))
+life_after life why = life_after_by row life why
+
+-- Socket n after this past, by a table of socket life.
+abbrev pub life_by : Table → Past → ℕ → Life
+life_by table [] n = unborn
+life_by table (entry ∷ past) n = life_after_by table (life_by table past n) (cause past n entry)
 
 -- Socket n after this past.
 abbrev pub life : Past → ℕ → Life
-life [] n = unborn
-life (entry ∷ past) n = life_after (life past n) (cause past n entry)
+life past n = life_by row past n
 
 -- Its status (datasheet, 4.2 Sn_SR), the number of its lives so far, and the life that its link is still to forget.
 abbrev pub status : Past → ℕ → Status
@@ -185,3 +237,4 @@ status_code Established = 0x17
 status_code FinWait = 0x18
 status_code CloseWait = 0x1C
 status_code LastAck = 0x1D
+status_code Udp = 0x22

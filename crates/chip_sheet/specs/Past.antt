@@ -1,34 +1,16 @@
 -- What happened before a moment, as lists: an event of the program lends its bytes, an entry has them. Every definition of the
 -- chip looks back over it.
-use Rattle.std.specs.Prelude.{◌≡◌, ℕ, List, ◌++◌}
-use Rattle.chip_sheet.specs.declared.event.BusEvent.{BusEvent}
-use Rattle.chip_sheet.specs.declared.event.BusAnswer.{BusAnswer}
-use Rattle.chip_sheet.specs.declared.event.Addr.{Addr}
+use Rattle.std.specs.Prelude.{◌≡◌, ℕ, List, [], ◌∷◌, ◌++◌}
+use Rattle.board_bus.specs.declared.event.BusEvent.{BusEvent}
+use Rattle.board_bus.specs.declared.event.BusAnswer.{BusAnswer}
 use Rattle.chip_sheet.specs.declared.event.LinkWhat.{LinkWhat}
 use Rattle.chip_sheet.specs.declared.event.LinkWhat.TheVariants as what
 use Rattle.chip_sheet.specs.declared.event.Event.{Event}
 use Rattle.chip_sheet.specs.declared.event.Event.TheVariants as event
-
--- What the link below a socket did.
-pub data LinkEntry : Type 0 where
-  Linked : LinkEntry
-  Accepted : Addr → LinkEntry
-  Refused : LinkEntry
-  TimedOut : LinkEntry
-  Took : ℕ → LinkEntry
-  Got : List ℕ → LinkEntry
-  Datagram : Addr → List ℕ → LinkEntry
-  Ended : LinkEntry
-  Shut : LinkEntry
-  Failed : LinkEntry
-  Dropped : LinkEntry
-
--- One entry of a history: an event of the bus with its answer, what the link of a socket did, or a turn in which nothing
--- happened.
-pub data Entry : Type 0 where
-  Bus : BusEvent → BusAnswer → Entry
-  Link : ℕ → LinkEntry → Entry
-  Rest : Entry
+use Rattle.chip_sheet.specs.declared.event.LinkEntry.{LinkEntry}
+use Rattle.chip_sheet.specs.declared.event.LinkEntry.TheVariants.{Linked, Accepted, Refused, TimedOut, Took, Got, Datagram, Ended, Shut, Failed, Dropped}
+use Rattle.chip_sheet.specs.declared.event.Entry.{Entry}
+use Rattle.chip_sheet.specs.declared.event.Entry.TheVariants.{Bus, Link, Rest}
 
 -- What happened before a moment, the newest first.
 abbrev pub Past : Type 0
@@ -57,3 +39,10 @@ entry_of event.Rest = Rest
 -- The newer past goes on from the older one: the older one is what had happened at an earlier moment.
 abbrev pub GoesOn : Past → Past → Type 0
 GoesOn older newer = (more : Past) × (newer ≡ more ++ older)
+
+-- The events of the bus with their answers, the oldest first.
+abbrev pub exchanges : Past → List (BusEvent × BusAnswer)
+exchanges [] = []
+exchanges (Bus e a ∷ past) = exchanges past ++ (e, a) ∷ []
+exchanges (Link n what ∷ past) = exchanges past
+exchanges (Rest ∷ past) = exchanges past

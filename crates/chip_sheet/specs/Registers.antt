@@ -5,13 +5,15 @@ use Rattle.chip_sheet.specs.declared.phase.Access.{Access}
 use Rattle.chip_sheet.specs.declared.phase.Access.TheVariants.{NoAccess, Read, Write}
 use Rattle.chip_sheet.specs.Past.{Past}
 use Rattle.chip_sheet.specs.Frames.{access_of}
+use Rattle.chip_sheet.specs.Names.{mr}
+use Rattle.chip_sheet.specs.Blocks.{registers_of}
 use Rattle.chip_sheet.specs.CommonBlock.{Rule, Stored, ReadOnly, LinkUp, Place, common_place}
 
 -- A write of the mode register MR with bit 7 resets the chip (datasheet, 4.1 MR, RST).
 abbrev pub is_reset : Access → Bool
 is_reset NoAccess = false
 is_reset (Read block addr) = false
-is_reset (Write block addr v) = block == 0 && addr == 0 && nat_le 128 v
+is_reset (Write block addr v) = block == 0 && addr == mr && nat_le 128 v
 
 -- The byte that an access writes to this place of this block, if it writes one.
 abbrev pub written_by : Access → ℕ → ℕ → Option ℕ
@@ -30,6 +32,10 @@ abbrev pub last_written : Past → ℕ → ℕ → Option ℕ
 last_written [] block at = None
 last_written (entry ∷ past) block at =
     written_after (access_of past entry) (last_written past block at) block at
+
+-- What was last written to a place of the register block of socket n, where that is 00 after a reset.
+abbrev pub written : Past → ℕ → ℕ → ℕ
+written past n at = unwrap_or (last_written past (registers_of n) at) 0x00
 
 -- What a place shows, by its rule, where this was last written to it, and where it has this reset value.
 abbrev pub shown_by : Rule → ℕ → ℕ → ℕ

@@ -1,14 +1,13 @@
 -- The register block of a socket (W5500 datasheet, 3.2 and 4.2), to be laid beside the datasheet's table, and what its places
 -- read.
-use Rattle.std.specs.Prelude.{ℕ, ◌+◌, ◌-◌, ◌==◌, ◌&&◌, nat_le, nat_lt, List, [], ◌∷◌, ◌++◌, length, slice_index, unwrap_or, if◌then◌else◌}
-use Rattle.chip_sheet.specs.declared.event.Addr.{Addr}
-use Rattle.chip_sheet.specs.declared.phase.Access.{Access}
-use Rattle.chip_sheet.specs.Past.{Past, Bus, Link, Rest, LinkEntry, Accepted}
-use Rattle.chip_sheet.specs.Frames.{access_of}
+use Rattle.std.specs.Prelude.{ℕ, ◌+◌, ◌-◌, ◌&&◌, nat_le, nat_lt, List, [], ◌∷◌, length, slice_index, unwrap_or, if◌then◌else◌}
+use Rattle.chip_sheet.specs.Past.{Past}
+use Rattle.chip_sheet.specs.Names.{sn_mr, sn_cr, sn_ir, sn_sr, sn_port, sn_dhar, sn_dipr, sn_dport, sn_mssr, sn_tos, sn_ttl, sn_rxbuf_size, sn_txbuf_size, sn_tx_fsr, sn_tx_rd, sn_tx_wr, sn_rx_rsr, sn_rx_rd, sn_rx_wr, sn_imr, sn_frag, sn_kpalvtr}
 use Rattle.chip_sheet.specs.Blocks.{registers_of}
-use Rattle.chip_sheet.specs.Registers.{is_reset, written_by, last_written}
+use Rattle.chip_sheet.specs.Registers.{last_written}
 use Rattle.chip_sheet.specs.Life.{status, status_code}
 use Rattle.chip_sheet.specs.Positions.{byte_of}
+use Rattle.chip_sheet.specs.Peers.{peer_byte}
 use Rattle.chip_sheet.specs.Streams.{Starts, pointer_byte}
 use Rattle.chip_sheet.specs.Windows.{tx_free, unread, tx_rd, rx_wr}
 use Rattle.chip_sheet.specs.Interrupts.{interrupt_register}
@@ -48,49 +47,49 @@ register place reset shows = record { place = place; reset = reset; shows = show
 
 abbrev pub socket_registers : List Register
 socket_registers =
-    -- Sn_MR, mode: the protocol in bits 3..0
-    register 0x00 (0x00 ∷ []) Written ∷
-    -- Sn_CR, command: it is accepted at once and reads 00
-    register 0x01 (0x00 ∷ []) Constant ∷
-    -- Sn_IR, interrupt
-    register 0x02 (0x00 ∷ []) Raised ∷
-    -- Sn_SR, status
-    register 0x03 (0x00 ∷ []) Code ∷
-    -- Sn_PORT, source port
-    register 0x04 (0x00 ∷ 0x00 ∷ []) Written ∷
-    -- Sn_DHAR, destination hardware address
-    register 0x06 (0xFF ∷ 0xFF ∷ 0xFF ∷ 0xFF ∷ 0xFF ∷ 0xFF ∷ []) Written ∷
-    -- Sn_DIPR, destination address
-    register 0x0C (0x00 ∷ 0x00 ∷ 0x00 ∷ 0x00 ∷ []) Peer ∷
-    -- Sn_DPORT, destination port
-    register 0x10 (0x00 ∷ 0x00 ∷ []) Peer ∷
-    -- Sn_MSSR, maximum segment size
-    register 0x12 (0x00 ∷ 0x00 ∷ []) Written ∷
-    -- Sn_TOS, type of service
-    register 0x15 (0x00 ∷ []) Written ∷
-    -- Sn_TTL, time to live
-    register 0x16 (0x80 ∷ []) Written ∷
-    -- Sn_RXBUF_SIZE and Sn_TXBUF_SIZE, in kilobytes
-    register 0x1E (0x02 ∷ []) Written ∷
-    register 0x1F (0x02 ∷ []) Written ∷
-    -- Sn_TX_FSR, TX free size
-    register 0x20 (0x08 ∷ 0x00 ∷ []) TxFree ∷
-    -- Sn_TX_RD, TX read pointer
-    register 0x22 (0x00 ∷ 0x00 ∷ []) TxRead ∷
-    -- Sn_TX_WR, TX write pointer
-    register 0x24 (0x00 ∷ 0x00 ∷ []) TxWrite ∷
-    -- Sn_RX_RSR, RX received size
-    register 0x26 (0x00 ∷ 0x00 ∷ []) RxUnread ∷
-    -- Sn_RX_RD, RX read pointer
-    register 0x28 (0x00 ∷ 0x00 ∷ []) RxRead ∷
-    -- Sn_RX_WR, RX write pointer
-    register 0x2A (0x00 ∷ 0x00 ∷ []) RxWrite ∷
-    -- Sn_IMR, interrupt mask
-    register 0x2C (0xFF ∷ []) Written ∷
-    -- Sn_FRAG, fragment field
-    register 0x2D (0x40 ∷ 0x00 ∷ []) Written ∷
-    -- Sn_KPALVTR, keep alive time
-    register 0x2F (0x00 ∷ []) Written ∷
+    -- mode: the protocol in bits 3..0
+    register sn_mr (0x00 ∷ []) Written ∷
+    -- command: it is accepted at once and reads 00
+    register sn_cr (0x00 ∷ []) Constant ∷
+    -- interrupt
+    register sn_ir (0x00 ∷ []) Raised ∷
+    -- status
+    register sn_sr (0x00 ∷ []) Code ∷
+    -- source port
+    register sn_port (0x00 ∷ 0x00 ∷ []) Written ∷
+    -- destination hardware address
+    register sn_dhar (0xFF ∷ 0xFF ∷ 0xFF ∷ 0xFF ∷ 0xFF ∷ 0xFF ∷ []) Written ∷
+    -- destination address
+    register sn_dipr (0x00 ∷ 0x00 ∷ 0x00 ∷ 0x00 ∷ []) Peer ∷
+    -- destination port
+    register sn_dport (0x00 ∷ 0x00 ∷ []) Peer ∷
+    -- maximum segment size
+    register sn_mssr (0x00 ∷ 0x00 ∷ []) Written ∷
+    -- type of service
+    register sn_tos (0x00 ∷ []) Written ∷
+    -- time to live
+    register sn_ttl (0x80 ∷ []) Written ∷
+    -- the sizes of the buffers, in kilobytes
+    register sn_rxbuf_size (0x02 ∷ []) Written ∷
+    register sn_txbuf_size (0x02 ∷ []) Written ∷
+    -- TX free size
+    register sn_tx_fsr (0x08 ∷ 0x00 ∷ []) TxFree ∷
+    -- TX read pointer
+    register sn_tx_rd (0x00 ∷ 0x00 ∷ []) TxRead ∷
+    -- TX write pointer
+    register sn_tx_wr (0x00 ∷ 0x00 ∷ []) TxWrite ∷
+    -- RX received size
+    register sn_rx_rsr (0x00 ∷ 0x00 ∷ []) RxUnread ∷
+    -- RX read pointer
+    register sn_rx_rd (0x00 ∷ 0x00 ∷ []) RxRead ∷
+    -- RX write pointer
+    register sn_rx_wr (0x00 ∷ 0x00 ∷ []) RxWrite ∷
+    -- interrupt mask
+    register sn_imr (0xFF ∷ []) Written ∷
+    -- fragment field
+    register sn_frag (0x40 ∷ 0x00 ∷ []) Written ∷
+    -- keep alive time
+    register sn_kpalvtr (0x00 ∷ []) Written ∷
     []
 
 -- One place: what it reads after a reset, what it shows, and which byte of its register it is, from 0.
@@ -112,26 +111,6 @@ place_in (r ∷ more) at =
 
 unfoldable pub socket_place : ℕ → Place
 socket_place at = place_in socket_registers at
-
--- The bytes of an address as Sn_DIPR and Sn_DPORT show them, 0C to 11.
-abbrev pub peer_bytes : Addr → List ℕ
-peer_bytes from = from.ip ++ byte_of 0 from.port ∷ byte_of 1 from.port ∷ []
-
-abbrev pub accepted_byte : LinkEntry → ℕ → ℕ → ℕ
-accepted_byte (Accepted from) at before = slice_index (peer_bytes from) (at - 0x0C)
-accepted_byte what at before = before
-
-abbrev pub peer_written : Access → ℕ → ℕ → ℕ → ℕ → ℕ
-peer_written made n at reset before =
-    if is_reset made then reset else unwrap_or (written_by made (registers_of n) at) before
-
--- A byte of Sn_DIPR or Sn_DPORT: the later of the last write and the last accepted peer, since the last reset.
-abbrev pub peer_byte : Past → ℕ → ℕ → ℕ → ℕ
-peer_byte [] n at reset = reset
-peer_byte (Bus e a ∷ past) n at reset = peer_written (access_of past (Bus e a)) n at reset (peer_byte past n at reset)
-peer_byte (Link m what ∷ past) n at reset =
-    if m == n then accepted_byte what at (peer_byte past n at reset) else peer_byte past n at reset
-peer_byte (Rest ∷ past) n at reset = peer_byte past n at reset
 
 -- What a place reads, by what it shows.
 abbrev pub shown_by : Starts → Past → ℕ → ℕ → ℕ → ℕ → Shows → ℕ

@@ -1,18 +1,25 @@
 -- What one life of a socket sent and received, as lists without bound. Contracts and registers show parts of them.
-use Rattle.std.specs.Prelude.{ℕ, ◌+◌, ◌%◌, zero, suc, Bool, true, false, ◌==◌, ◌&&◌, ◌||◌, List, [], ◌∷◌, ◌++◌, length, Option, unwrap_or, if◌then◌else◌}
+use Rattle.std.specs.Prelude.{ℕ, ◌+◌, ◌-◌, ◌%◌, zero, suc, Bool, true, false, not, ◌==◌, ◌&&◌, ◌||◌, nat_le, List, [], ◌∷◌, ◌++◌, length, Option, unwrap_or, if◌then◌else◌}
+use Rattle.chip_sheet.specs.declared.event.Addr.{Addr}
 use Rattle.chip_sheet.specs.declared.phase.Access.{Access}
 use Rattle.chip_sheet.specs.declared.phase.Access.TheVariants.{NoAccess, Read, Write}
 use Rattle.chip_sheet.specs.declared.socket.Status.{Status}
-use Rattle.chip_sheet.specs.declared.socket.Status.TheVariants.{Closed, Established, FinWait, CloseWait, LastAck}
+use Rattle.chip_sheet.specs.declared.socket.Status.TheVariants.{Established, FinWait, CloseWait, LastAck, Udp}
 use Rattle.chip_sheet.specs.declared.socket.Cause.{Cause}
 use Rattle.chip_sheet.specs.declared.socket.Cause.TheVariants as because
-use Rattle.chip_sheet.specs.Past.{Past, Bus, Link, Rest, LinkEntry, Linked, Accepted, Took, Got}
+use Rattle.chip_sheet.specs.declared.event.Entry.TheVariants.{Bus, Link, Rest}
+use Rattle.chip_sheet.specs.declared.event.LinkEntry.{LinkEntry}
+use Rattle.chip_sheet.specs.declared.event.LinkEntry.TheVariants.{Linked, Accepted, Took, Got, Datagram}
+use Rattle.chip_sheet.specs.Past.{Past}
 use Rattle.chip_sheet.specs.Frames.{access_of}
+use Rattle.chip_sheet.specs.Names.{sn_tx_wr, sn_rx_rd}
 use Rattle.chip_sheet.specs.Blocks.{registers_of, tx_buffer_of}
 use Rattle.chip_sheet.specs.Registers.{is_reset, written_by}
-use Rattle.chip_sheet.specs.Life.{cause, status, lives}
+use Rattle.chip_sheet.specs.Life.{cause, status, lives, begins, is_udp}
 use Rattle.chip_sheet.specs.Positions.{ahead, byte_of, pair}
-use Rattle.chip_sheet.specs.Sizes.{tx_sizes, tx_size, resizes}
+use Rattle.chip_sheet.specs.Sending.{bytes_from}
+use Rattle.chip_sheet.specs.Sizes.{tx_sizes, tx_size, rx_size, resizes}
+use Rattle.chip_sheet.specs.Peers.{peer_bytes, destination}
 
 -- Where the positions of a connection begin, 0 to 65535: a chip's own choice, which the datasheet leaves open.
 pub record Starts : Type 0 where
@@ -23,10 +30,11 @@ pub record Starts : Type 0 where
 abbrev pub is_of : Past → ℕ → ℕ → ℕ → Bool
 is_of past m n life = m == n && lives past n == life
 
--- SEND takes bytes in these statuses (this profile's own; the datasheet names ESTABLISHED and CLOSE_WAIT).
+-- SEND takes bytes in these statuses (this profile's own; the datasheet names ESTABLISHED and CLOSE_WAIT for TCP).
 abbrev pub sends : Status → Bool
 sends Established = true
 sends CloseWait = true
+sends Udp = true
 sends status = false
 
 -- RECV releases bytes in these statuses, and in no other a window holds any (this profile's own).
@@ -35,6 +43,7 @@ is_open Established = true
 is_open FinWait = true
 is_open CloseWait = true
 is_open LastAck = true
+is_open Udp = true
 is_open status = false
 
 abbrev pub is_established : Status → Bool
@@ -66,8 +75,7 @@ tx_byte past n at = byte_in past n (tx_size past n) at
 
 -- So many bytes of it, from a position on.
 abbrev pub tx_bytes : Past → ℕ → ℕ → ℕ → List ℕ
-tx_bytes past n at zero = []
-tx_bytes past n at (suc count) = tx_byte past n at ∷ tx_bytes past n (at + 1) count
+tx_bytes past n at count = bytes_from (tx_byte past n) at count
 
 -- A connection was made in a life.
 abbrev pub makes : LinkEntry → Bool
@@ -92,10 +100,9 @@ rx_base starts past n life = if is_made past n life then starts.rx else 0
 -- accepted OPEN, which makes it 0, and the making of a connection, which makes it the start; a reset makes it 0.
 abbrev pub pointer_after : Cause → Status → ℕ → Option ℕ → ℕ → ℕ
 pointer_after because.Reset status start byte before = 0
-pointer_after because.Open Closed start byte before = 0
 pointer_after because.Linked status start byte before = start
 pointer_after because.Accepted status start byte before = start
-pointer_after why status start byte before = unwrap_or byte before
+pointer_after why status start byte before = if begins why status then 0 else unwrap_or byte before
 
 abbrev pub pointer_byte : Past → ℕ → ℕ → ℕ → ℕ
 pointer_byte [] n at start = 0
@@ -106,11 +113,11 @@ pointer_byte (entry ∷ past) n at start =
 -- Sn_TX_WR and Sn_RX_RD (datasheet, 4.2): up to where SEND sends, and up to where RECV releases.
 abbrev pub tx_wr : Starts → Past → ℕ → ℕ
 tx_wr starts past n =
-    pair (pointer_byte past n 0x24 (byte_of 0 starts.tx)) (pointer_byte past n 0x25 (byte_of 1 starts.tx))
+    pair (pointer_byte past n sn_tx_wr (byte_of 0 starts.tx)) (pointer_byte past n (sn_tx_wr + 1) (byte_of 1 starts.tx))
 
 abbrev pub rx_rd : Starts → Past → ℕ → ℕ
 rx_rd starts past n =
-    pair (pointer_byte past n 0x28 (byte_of 0 starts.rx)) (pointer_byte past n 0x29 (byte_of 1 starts.rx))
+    pair (pointer_byte past n sn_rx_rd (byte_of 0 starts.rx)) (pointer_byte past n (sn_rx_rd + 1) (byte_of 1 starts.rx))
 
 -- How many bytes a SEND takes, where so many were sent before in the socket's present life: from their end to Sn_TX_WR.
 abbrev pub range_length : Starts → Past → ℕ → ℕ → ℕ
@@ -146,6 +153,22 @@ abbrev pub ends : Starts → Past → ℕ → ℕ → List ℕ
 ends starts [] n life = []
 ends starts (entry ∷ past) n life = ends_by starts past n life (cause past n entry) (ends starts past n life)
 
+-- A SEND of this life that sends a datagram: in UDP, of a range that is not empty.
+abbrev pub sends_datagram : Starts → Past → ℕ → ℕ → Bool
+sends_datagram starts past n life =
+    is_udp (status past n) && lives past n == life && not (range_length starts past n (length (sent starts past n life)) == 0)
+
+abbrev pub destinations_by : Starts → Past → ℕ → ℕ → Cause → List Addr → List Addr
+destinations_by starts past n life because.Send before =
+    if sends_datagram starts past n life then before ++ destination past n ∷ [] else before
+destinations_by starts past n life why before = before
+
+-- Where each datagram of a life goes: what Sn_DIPR and Sn_DPORT held at its SEND, in order.
+abbrev pub destinations : Starts → Past → ℕ → ℕ → List Addr
+destinations starts [] n life = []
+destinations starts (entry ∷ past) n life =
+    destinations_by starts past n life (cause past n entry) (destinations starts past n life)
+
 -- How many of the sent bytes the link took: the taken count.
 abbrev pub taken_by : LinkEntry → ℕ
 taken_by (Took count) = count
@@ -160,24 +183,16 @@ taken (Rest ∷ past) n life = taken past n life
 -- The bytes that a link event supplies.
 abbrev pub bytes_of : LinkEntry → List ℕ
 bytes_of (Got bytes) = bytes
+bytes_of (Datagram from body) = body
 bytes_of what = []
 
--- All bytes that the link supplied in a life, kept or thrown away.
+-- All bytes that the link supplied in a life, kept or thrown away: those of a connection, and the bodies of datagrams.
 abbrev pub supplied : Past → ℕ → ℕ → List ℕ
 supplied [] n life = []
 supplied (Link m what ∷ past) n life =
     if is_of past m n life then supplied past n life ++ bytes_of what else supplied past n life
 supplied (Bus e a ∷ past) n life = supplied past n life
 supplied (Rest ∷ past) n life = supplied past n life
-
--- The bytes that were received in a life, those that came in ESTABLISHED: what came after DISCON is thrown away (this profile's
--- own).
-abbrev pub got : Past → ℕ → ℕ → List ℕ
-got [] n life = []
-got (Link m what ∷ past) n life =
-    if is_of past m n life && is_established (status past n) then got past n life ++ bytes_of what else got past n life
-got (Bus e a ∷ past) n life = got past n life
-got (Rest ∷ past) n life = got past n life
 
 -- How far RECV goes, where so many bytes were released before in the socket's present life: from their end to Sn_RX_RD.
 abbrev pub release_length : Starts → Past → ℕ → ℕ → ℕ
@@ -192,3 +207,38 @@ released_by starts past n life why before = before
 abbrev pub released : Starts → Past → ℕ → ℕ → ℕ
 released starts [] n life = 0
 released starts (entry ∷ past) n life = released_by starts past n life (cause past n entry) (released starts past n life)
+
+-- The eight bytes that stand before the body of a datagram in the RX buffer: the sender's address and port, and how many bytes the
+-- body has, the high byte first (this is how the W5500 hands datagrams on; 8 and the length of the body must be free).
+abbrev pub header : Addr → ℕ → List ℕ
+header from count = peer_bytes from ++ byte_of 0 count ∷ byte_of 1 count ∷ []
+
+abbrev pub header_length : ℕ
+header_length = 8
+
+-- A datagram of so many bytes fits where so many are free.
+abbrev pub has_place : ℕ → ℕ → Bool
+has_place count free = nat_le (header_length + count) free
+
+-- The bytes that a link event puts into the RX buffer of a socket in a status, where so many are free of it: those that come in
+-- ESTABLISHED, and a datagram that fits, with its header. What comes after DISCON is thrown away, and so is a datagram that does
+-- not fit (this profile's own).
+abbrev pub put_by : Status → ℕ → LinkEntry → List ℕ
+put_by Established free (Got bytes) = bytes
+put_by Udp free (Datagram from body) = if has_place (length body) free then header from (length body) ++ body else []
+put_by status free what = []
+
+-- How many bytes are free of the RX buffer for a life of which so many were received.
+abbrev pub free_behind : Starts → Past → ℕ → ℕ → ℕ → ℕ
+free_behind starts past n life received = rx_size past n - (received - released starts past n life)
+
+abbrev pub got_by : Starts → Past → ℕ → ℕ → ℕ → LinkEntry → List ℕ → List ℕ
+got_by starts past m n life what before =
+    if is_of past m n life then before ++ put_by (status past n) (free_behind starts past n life (length before)) what else before
+
+-- The bytes that were received in a life: what was put into the RX buffer, in order.
+abbrev pub got : Starts → Past → ℕ → ℕ → List ℕ
+got starts [] n life = []
+got starts (Link m what ∷ past) n life = got_by starts past m n life what (got starts past n life)
+got starts (Bus e a ∷ past) n life = got starts past n life
+got starts (Rest ∷ past) n life = got starts past n life

@@ -1,6 +1,6 @@
 // Laws that tie the chip as it is built so far to the whole chip, each the contract of an empty function.
 ghost use Rattle.std.specs.Prelude.{◌≡◌, None};
-ghost use Rattle.chip_sheet.specs.declared.event.BusEvent.{BusEvent};
+ghost use Rattle.board_bus.specs.declared.event.BusEvent.{BusEvent};
 ghost use Rattle.chip_sheet.specs.Past.{Past};
 ghost use Rattle.chip_sheet.specs.Streams.{Starts};
 ghost use Rattle.chip_sheet.specs.Answers.{answer};

@@ -1,24 +1,6 @@
-/// One event of the host's bus (W5500 datasheet, 2.1 SPI operation mode).
-#[derive(Clone, Copy, Debug, PartialEq, Eq)]
-pub enum BusEvent {
-    /// The select line SCSn is set: `true` low, `false` high.
-    Select(bool),
-    /// Eight clocks of SCLK: this byte on MOSI, the most significant bit first.
-    Byte(u8),
-    /// A look at the interrupt line INTn.
-    Look,
-}
-
-/// What the chip answers to an event of the bus.
-#[derive(Clone, Copy, Debug, PartialEq, Eq)]
-pub enum BusAnswer {
-    /// A change of the select line needs no answer.
-    Done,
-    /// The byte on MISO during the eight clocks.
-    Out(u8),
-    /// The level of INTn: `true` high, `false` low.
-    Level(bool),
-}
+//! Events of a history: the bus, the links, and turns in which nothing happened.
+pub use board_bus::{BusAnswer, BusEvent};
+use std::collections::LinkedList;
 
 /// An address of the internet protocol, version 4, and a port of it.
 #[derive(Clone, Copy, Debug, PartialEq, Eq)]
@@ -72,6 +54,42 @@ pub enum Event<'a> {
     Bus(BusEvent, BusAnswer),
     /// What the link below a socket, 0 to 7, did.
     Link(u8, LinkWhat<'a>),
+    /// A turn in which nothing happened.
+    Rest,
+}
+
+/// What the link below a socket did, as contracts see it: with bytes of its own. No value of it is made.
+pub enum LinkEntry {
+    /// The connection that CONNECT asked for was made.
+    Linked,
+    /// A peer at this address connected to the port that listens.
+    Accepted(Addr),
+    /// The peer refused the connection.
+    Refused,
+    /// No peer answered in time.
+    TimedOut,
+    /// The link took so many bytes that were passed to SEND.
+    Took(u32),
+    /// These bytes came from the peer.
+    Got(LinkedList<u8>),
+    /// A datagram with this body came from this address.
+    Datagram(Addr, LinkedList<u8>),
+    /// The peer sends no more.
+    Ended,
+    /// The link was told that nothing more is sent.
+    Shut,
+    /// The link failed.
+    Failed,
+    /// The link forgot a life that had closed.
+    Dropped,
+}
+
+/// One entry of a history, as contracts see it. No value of it is made: a struct may hold entries in a ghost value.
+pub enum Entry {
+    /// An event of the host's bus, with the chip's answer.
+    Bus(BusEvent, BusAnswer),
+    /// What the link below a socket, 0 to 7, did.
+    Link(u8, LinkEntry),
     /// A turn in which nothing happened.
     Rest,
 }

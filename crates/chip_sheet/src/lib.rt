@@ -7,10 +7,8 @@
 pub mod block;
 pub mod built_laws;
 pub mod event;
-pub mod examples;
 pub mod laws;
 pub mod phase;
 pub mod socket;
-pub mod socket_examples;
 pub mod socket_laws;
 pub mod stop;

@@ -19,6 +19,8 @@ pub enum Status {
     CloseWait,
     /// SOCK_LAST_ACK, 1D: the peer has ended, and this side after it.
     LastAck,
+    /// SOCK_UDP, 22: opened for UDP.
+    Udp,
 }
 
 /// What an entry of a history is for one socket.
@@ -29,7 +31,9 @@ pub enum Cause {
     /// The chip is reset.
     Reset,
     /// The command OPEN while the mode register's protocol is TCP.
-    Open,
+    OpenTcp,
+    /// The command OPEN while the mode register's protocol is UDP.
+    OpenUdp,
     /// The command LISTEN.
     Listen,
     /// The command CONNECT.
@@ -54,6 +58,8 @@ pub enum Cause {
     Took(u32),
     /// Bytes came.
     Got,
+    /// A datagram came, whose body has so many bytes.
+    Datagram(u64),
     /// The peer sends no more.
     Ended,
     /// The link knows that nothing more is sent.
@@ -71,7 +77,7 @@ pub enum Interrupt {
     Connected,
     /// DISCON, bit 1: the peer has ended.
     Disconnected,
-    /// RECV, bit 2: bytes came, or remain after a RECV.
+    /// RECV, bit 2: bytes were put into the RX buffer, or remain after a RECV.
     Received,
     /// TIMEOUT, bit 3: no peer answered, or the link failed.
     TimedOut,
@@ -90,6 +96,8 @@ pub enum Due {
     Connect(ConnId, Addr),
     /// Bytes in flight are to be written.
     Write(ConnId),
+    /// The datagram in flight is to be sent, from the port kept at OPEN to the address kept at SEND.
+    SendTo(ConnId, u16, Addr),
     /// The outgoing direction is to be ended.
     Shut(ConnId),
     /// A peer is to be accepted on the port kept at LISTEN.
@@ -98,4 +106,6 @@ pub enum Due {
     Read(ConnId),
     /// Bytes are to be read, and thrown away.
     ReadAway(ConnId),
+    /// A datagram is to be received on the port kept at OPEN.
+    RecvFrom(ConnId, u16),
 }

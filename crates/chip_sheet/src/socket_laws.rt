@@ -1,12 +1,14 @@
 // Laws of the sockets' definitions, each the contract of an empty function.
 ghost use Rattle.std.specs.Prelude.{◌≡◌, ◌≤◌, ◌<◌, ◌↔◌, ℕ, ◌+◌, ◌*◌, ◌%◌, List, ◌∷◌, ◌++◌, length, slice_get, slice_index, Some, true, false};
 ghost use Rattle.std.specs.Option.{IsSome};
-ghost use Rattle.chip_sheet.specs.declared.event.BusEvent.TheVariants.{Byte};
-ghost use Rattle.chip_sheet.specs.declared.event.BusAnswer.TheVariants.{Out};
+ghost use Rattle.board_bus.specs.declared.event.BusEvent.TheVariants.{Byte};
+ghost use Rattle.board_bus.specs.declared.event.BusAnswer.TheVariants.{Out};
 ghost use Rattle.chip_sheet.specs.declared.phase.Access.TheVariants.{NoAccess};
 ghost use Rattle.chip_sheet.specs.declared.socket.Status.TheVariants.{Closed};
 ghost use Rattle.chip_sheet.specs.declared.socket.Cause.TheVariants.{Send};
-ghost use Rattle.chip_sheet.specs.Past.{Past, Entry, LinkEntry, GoesOn};
+ghost use Rattle.chip_sheet.specs.declared.event.Entry.{Entry};
+ghost use Rattle.chip_sheet.specs.declared.event.LinkEntry.{LinkEntry};
+ghost use Rattle.chip_sheet.specs.Past.{Past, GoesOn};
 ghost use Rattle.chip_sheet.specs.Frames.{access, access_of, is_low};
 ghost use Rattle.chip_sheet.specs.Registers.{is_reset};
 ghost use Rattle.chip_sheet.specs.Life.{cause, status, lives, is_closed};
@@ -41,7 +43,7 @@ pub fn taken_within_sent()
 
 /// In a legal history no more of a life's bytes were released than were received in it.
 pub fn released_within_got()
-    ensures { (starts : Starts) (past : Past) (n life : ℕ) → Legal starts past → released starts past n life ≤ length (got past n life) }
+    ensures { (starts : Starts) (past : Past) (n life : ℕ) → Legal starts past → released starts past n life ≤ length (got starts past n life) }
 {}
 
 /// After a reset of the chip every socket is closed, nothing is in flight or unread, and each buffer reads 00 at every address. The
@@ -103,7 +105,7 @@ pub fn unread_fits()
 /// has the place of the byte's position.
 pub fn received_reads_back()
     ensures { (starts : Starts) (past : Past) (n q addr : ℕ) → n < 8 → Legal starts past → is_open (status past n) ≡ true
-        → released starts past n (lives past n) ≤ q → q < length (got past n (lives past n))
+        → released starts past n (lives past n) ≤ q → q < length (got starts past n (lives past n))
         → addr % rx_size past n ≡ (rx_base starts past n (lives past n) + q) % rx_size past n
-        → rx_byte starts past n addr ≡ slice_index (got past n (lives past n)) q }
+        → rx_byte starts past n addr ≡ slice_index (got starts past n (lives past n)) q }
 {}

@@ -31,8 +31,18 @@ pub enum ChipStop {
         /// The socket.
         sn: u8,
     },
+    /// OPEN for UDP with the multicast bit of the mode register.
+    Multicast {
+        /// The socket.
+        sn: u8,
+    },
     /// OPEN while the buffer sizes of a direction are not valid.
     BadBufferSize {
+        /// The socket.
+        sn: u8,
+    },
+    /// SEND for UDP while a datagram is in flight.
+    SendBusy {
         /// The socket.
         sn: u8,
     },

@@ -2,8 +2,8 @@
 use Rattle.std.proofs.Common.{◌≡◌, ℕ, ◌+◌, List, [], ◌∷◌, ◌++◌, refl, sym, ap, ◌∙◌, append_assoc, ◌<◌, ◌≤◌, suc, length, drop, get_or, drop-cons, add-one}
 use Rattle.std.proofs.Math.ListN.{drop_of_length-le}
 use Rattle.std.specs.List.{filter_map, join_with_byte}
-use Rattle.chip_sheet.specs.declared.event.BusAnswer.{BusAnswer}
-use Rattle.chip_sheet.specs.declared.event.BusAnswer.TheVariants.{Done, Out, Level}
+use Rattle.board_bus.specs.declared.event.BusAnswer.{BusAnswer}
+use Rattle.board_bus.specs.declared.event.BusAnswer.TheVariants.{Done, Out, Level}
 use Rattle.plain_bus.specs.Text.{printed, spaced, with_printed}
 
 -- the pieces that are left, behind what stands on the line

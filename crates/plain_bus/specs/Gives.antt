@@ -1,6 +1,6 @@
 -- What the code gives of a line and of a run.
 use Rattle.std.specs.Prelude.{◌≡◌, ℕ, List, Option, Result, Ok, Err}
-use Rattle.chip_sheet.specs.declared.event.BusAnswer.{BusAnswer}
+use Rattle.board_bus.specs.declared.event.BusAnswer.{BusAnswer}
 use Rattle.chip_sheet.specs.Past.{Past}
 use Rattle.chip_sheet.specs.Replay.{Told, AllTaken, StoppedBy}
 use Rattle.chip_sheet.specs.Replay as replay

@@ -1,6 +1,6 @@
 -- One step of a script.
 use Rattle.std.specs.Prelude.{◌≡◌, List, ◌∷◌, Option, None, Some}
-use Rattle.chip_sheet.specs.declared.event.BusAnswer.{BusAnswer}
+use Rattle.board_bus.specs.declared.event.BusAnswer.{BusAnswer}
 use Rattle.chip_sheet.specs.Past.{Past}
 use Rattle.chip_sheet.specs.Streams.{Starts}
 use Rattle.chip_sheet.specs.Replay.{Step, Told, AllTaken, StoppedBy, told, ends_with, with_answer}

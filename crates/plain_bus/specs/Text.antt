@@ -1,8 +1,8 @@
 -- The text of the answers.
 use Rattle.std.specs.Prelude.{ℕ, ◌+◌, ◌/◌, ◌%◌, nat_lt, List, [], ◌∷◌, ◌++◌, Option, None, Some, if◌then◌else◌}
 use Rattle.std.specs.List.{filter_map, join_with_byte}
-use Rattle.chip_sheet.specs.declared.event.BusAnswer.{BusAnswer}
-use Rattle.chip_sheet.specs.declared.event.BusAnswer.TheVariants.{Done, Out, Level}
+use Rattle.board_bus.specs.declared.event.BusAnswer.{BusAnswer}
+use Rattle.board_bus.specs.declared.event.BusAnswer.TheVariants.{Done, Out, Level}
 
 -- A hexadecimal digit, in upper case.
 abbrev pub digit : ℕ → ℕ

@@ -22,7 +22,9 @@ pub fn line_of_stop(alloc: Global, stop: ChipStop) -> Result<String, AllocError>
         }
         ChipStop::SendMac { sn } => format!(in alloc; "stop SendMac {sn}\n"),
         ChipStop::RawEthernet { sn } => format!(in alloc; "stop RawEthernet {sn}\n"),
+        ChipStop::Multicast { sn } => format!(in alloc; "stop Multicast {sn}\n"),
         ChipStop::BadBufferSize { sn } => format!(in alloc; "stop BadBufferSize {sn}\n"),
+        ChipStop::SendBusy { sn } => format!(in alloc; "stop SendBusy {sn}\n"),
         ChipStop::SendTooLong { sn, len, free } => {
             format!(in alloc; "stop SendTooLong {sn} {len} {free}\n")
         }

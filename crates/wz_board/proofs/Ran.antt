@@ -1,6 +1,6 @@
 -- The events of a run, up to the first stop.
 use Rattle.std.proofs.Common.{◌≡◌, List, [], ◌∷◌, ◌++◌, Option, None, Some, refl, sym, ap, ◌∙◌, append_assoc, append-nil}
-use Rattle.chip_sheet.specs.declared.event.BusEvent.{BusEvent}
+use Rattle.board_bus.specs.declared.event.BusEvent.{BusEvent}
 use Rattle.chip_sheet.specs.declared.stop.Unbuilt.{Unbuilt}
 use Rattle.chip_sheet.specs.Past.{Past}
 use Rattle.chip_sheet.specs.BuiltAnswers.{built_answer}

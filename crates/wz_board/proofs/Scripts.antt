@@ -1,7 +1,7 @@
 -- The lines of a script, read from its start.
 use Rattle.std.proofs.Common.{◌≡◌, ℕ, List, [], ◌∷◌, Option, None, Some, IsSome, option_map, unwrap_or, refl, ap, ◌∙◌}
 use Rattle.std.specs.Str.Lines.{lines}
-use Rattle.chip_sheet.specs.declared.event.BusEvent.{BusEvent}
+use Rattle.board_bus.specs.declared.event.BusEvent.{BusEvent}
 use Rattle.wz_board.specs.Script.{each, line_events, script_lines, lines_in}
 use Rattle.wz_board.proofs.Each.{each_on, each_stops}
 

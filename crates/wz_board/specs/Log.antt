@@ -1,6 +1,8 @@
 -- A history as contracts see it.
 use Rattle.std.specs.Prelude.{ℕ, List, map, reverse}
-use Rattle.chip_sheet.specs.Past.{Past, Entry, Bus}
+use Rattle.chip_sheet.specs.declared.event.Entry.{Entry}
+use Rattle.chip_sheet.specs.declared.event.Entry.TheVariants.{Bus}
+use Rattle.chip_sheet.specs.Past.{Past}
 use Rattle.wz_board.specs.declared.history.Exchange.{Exchange}
 
 pub record Log : Type 0 where

@@ -1,9 +1,10 @@
 -- What a bus script does.
 use Rattle.std.specs.Prelude.{◌≡◌, ℕ, List, [], ◌∷◌, ◌++◌, Option, None, Some, Result, Ok, Err}
-use Rattle.chip_sheet.specs.declared.event.BusEvent.{BusEvent}
-use Rattle.chip_sheet.specs.declared.event.BusAnswer.{BusAnswer}
+use Rattle.board_bus.specs.declared.event.BusEvent.{BusEvent}
+use Rattle.board_bus.specs.declared.event.BusAnswer.{BusAnswer}
 use Rattle.chip_sheet.specs.declared.stop.Unbuilt.{Unbuilt}
-use Rattle.chip_sheet.specs.Past.{Past, Bus, Link, Rest, GoesOn}
+use Rattle.chip_sheet.specs.declared.event.Entry.TheVariants.{Bus, Link, Rest}
+use Rattle.chip_sheet.specs.Past.{Past, GoesOn}
 use Rattle.chip_sheet.specs.BuiltAnswers.{built_answer}
 use Rattle.chip_sheet.specs.BuiltStops.{unbuilt}
 use Rattle.chip_sheet.specs.BuiltAnswers.{answered}

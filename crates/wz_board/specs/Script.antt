@@ -5,8 +5,8 @@ use Rattle.std.specs.List.{slice_split}
 use Rattle.std.specs.Str.Lines.{lines}
 use Rattle.hex.specs.Hex.{decode_sized}
 use Rattle.hex.specs.declared.error.FromHexError.{FromHexError}
-use Rattle.chip_sheet.specs.declared.event.BusEvent.{BusEvent}
-use Rattle.chip_sheet.specs.declared.event.BusEvent.TheVariants.{Select, Byte}
+use Rattle.board_bus.specs.declared.event.BusEvent.{BusEvent}
+use Rattle.board_bus.specs.declared.event.BusEvent.TheVariants.{Select, Byte}
 
 -- The event of a token that stands for a byte.
 abbrev pub byte_read : Result (List ℕ) FromHexError → Option BusEvent

@@ -1,7 +1,7 @@
 -- One step of a session.
 use Rattle.std.specs.Prelude.{◌≡◌, None, Some}
-use Rattle.chip_sheet.specs.declared.event.BusEvent.{BusEvent}
-use Rattle.chip_sheet.specs.declared.event.BusAnswer.{BusAnswer}
+use Rattle.board_bus.specs.declared.event.BusEvent.{BusEvent}
+use Rattle.board_bus.specs.declared.event.BusAnswer.{BusAnswer}
 use Rattle.chip_sheet.specs.Past.{Past}
 use Rattle.chip_sheet.specs.BuiltAnswers.{built_answer}
 use Rattle.chip_sheet.specs.BuiltStops.{unbuilt}

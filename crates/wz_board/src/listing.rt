@@ -10,7 +10,7 @@ ghost use Rattle.wz_board.specs.Listing.{entry_text, flash_word, head_text, list
 use crate::text::digit;
 use avr_enc::line_of;
 use avr_table::{DecodeFault, Instr, decode};
-use ihex::Image;
+use flash::Image;
 use wz_base::{LineBuffer, Sink, WriteError};
 
 /// How many words flash has.

@@ -44,7 +44,9 @@ impl Model for Session {
 
     ghost Value = { SessionState };
 
-    ghost view = { λ s. record { past = s.history.past; stopped = s.chip.stopped } };
+    ghost use Rattle.chip_core.specs.Chip.{stop_kept};
+
+    ghost view = { λ s. record { past = s.history.past; stopped = stop_kept s.chip } };
 
     ghost invariant = { λ s. Together s.chip s.history.past };
 }

@@ -1,5 +1,5 @@
 use Rattle.std.proofs.Common.{rules, subst, List, [], Option}
-use Rattle.chip_sheet.specs.declared.event.BusEvent.{BusEvent}
+use Rattle.board_bus.specs.declared.event.BusEvent.{BusEvent}
 use Rattle.wz_board.specs.Script.{script_lines}
 use Rattle.wz_board.specs.Outcome.{lines_outcome, Ran}
 use Rattle.wz_board.proofs.Scripts.{some_is}

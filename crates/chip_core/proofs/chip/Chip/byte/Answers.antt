@@ -1,7 +1,7 @@
 use Rattle.std.proofs.Common.{◌≡◌, None, sym, ap, ◌∙◌}
 use Rattle.chip_sheet.specs.declared.phase.Phase.{Phase}
-use Rattle.chip_sheet.specs.declared.event.BusEvent.TheVariants.{Byte}
-use Rattle.chip_sheet.specs.declared.event.BusAnswer.TheVariants.{Out}
+use Rattle.board_bus.specs.declared.event.BusEvent.TheVariants.{Byte}
+use Rattle.board_bus.specs.declared.event.BusAnswer.TheVariants.{Out}
 use Rattle.chip_sheet.specs.Frames.{access, access_in}
 use Rattle.chip_sheet.specs.BuiltAnswers.{built_byte}
 use Rattle.chip_sheet.specs.BuiltStops.{unbuilt}
@@ -20,6 +20,7 @@ returns-clause-answered c = λ past stands.
       allowed = free;
       is = ap Out out;
       stands = record {
+        legal = ((free, ap Out out), stands.legal);
         framer = c.byte.ensures.after past answer stands.framer;
         registers = c.exchange-out.ensures.after past (Byte v) answer (sym is) stands.registers;
       };
