@@ -12,3 +12,6 @@ pub mod SizeLaws
 pub mod LifeSteps
 pub mod FitLaws
 pub mod ReadBack
+pub mod Quiet
+pub mod BitSums
+pub mod InterruptBits

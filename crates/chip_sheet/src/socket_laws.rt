@@ -1,5 +1,5 @@
 // Laws of the sockets' definitions, each the contract of an empty function.
-ghost use Rattle.std.specs.Prelude.{◌≡◌, ◌≤◌, ◌<◌, ◌↔◌, ℕ, ◌+◌, ◌*◌, ◌%◌, List, ◌∷◌, ◌++◌, length, slice_get, slice_index, Some, true, false};
+ghost use Rattle.std.specs.Prelude.{◌≡◌, ◌≤◌, ◌<◌, ◌↔◌, ◌==◌, not, bit_and, ℕ, ◌+◌, ◌*◌, ◌%◌, ◌^◌, List, ◌∷◌, ◌++◌, length, slice_get, slice_index, Some, true, false};
 ghost use Rattle.std.specs.Option.{IsSome};
 ghost use Rattle.board_bus.specs.declared.event.BusEvent.TheVariants.{Byte};
 ghost use Rattle.board_bus.specs.declared.event.BusAnswer.TheVariants.{Out};
@@ -18,6 +18,11 @@ ghost use Rattle.chip_sheet.specs.Windows.{flight, unread, rx_byte, in_flight_at
 ghost use Rattle.chip_sheet.specs.Answers.{answer};
 ghost use Rattle.chip_sheet.specs.Legal.{Legal};
 ghost use Rattle.chip_sheet.specs.Replay.{Step, Happens, AllTaken, told};
+ghost use Rattle.chip_sheet.specs.Bits.{has_bit};
+ghost use Rattle.chip_sheet.specs.Interrupts.{bit_value, raised, interrupt_register, mask, asks, sir_register, enabled_sockets, interrupt_low};
+ghost use Rattle.chip_sheet.specs.declared.socket.Interrupt.{Interrupt};
+ghost use Rattle.chip_sheet.specs.Quiet.{LeavesLife, Untouched, LeavesAll};
+ghost use Rattle.chip_sheet.specs.declared.socket.Cause.TheVariants.{Nothing};
 
 /// A byte that makes no access is answered FF while the select line is high, and 00 while it is low.
 pub fn idle_answer()
@@ -108,4 +113,20 @@ pub fn received_reads_back()
         → released starts past n (lives past n) ≤ q → q < length (got starts past n (lives past n))
         → addr % rx_size past n ≡ (rx_base starts past n (lives past n) + q) % rx_size past n
         → rx_byte starts past n addr ≡ slice_index (got starts past n (lives past n)) q }
+{}
+
+/// What is nothing for a socket leaves its life, lists, windows and what it keeps for the link; and what does not touch the socket,
+/// by no command, event, write or change of a size, leaves all of it.
+pub fn others_stay()
+    ensures life { (starts : Starts) (past : Past) (entry : Entry) (n : ℕ) → cause past n entry ≡ Nothing → LeavesLife starts past entry n }
+    ensures all { (starts : Starts) (past : Past) (entry : Entry) (n : ℕ) → Untouched past entry n → LeavesAll starts past entry n }
+{}
+
+/// The interrupt registers as bits: a bit of Sn_IR reads 1 exactly where it is raised; a socket asks exactly where `Sn_IR & Sn_IMR` is
+/// not 0; bit n of SIR reads 1 exactly where socket n asks; INTn is low exactly where `SIR & SIMR` is not 0.
+pub fn interrupts_as_bits()
+    ensures bit { (starts : Starts) (past : Past) (n : ℕ) (bit : Interrupt) → has_bit (interrupt_register starts past n) (bit_value bit) ≡ raised starts past n bit }
+    ensures asks { (starts : Starts) (past : Past) (n : ℕ) → asks starts past n ≡ not (bit_and (interrupt_register starts past n) (mask past n) == 0) }
+    ensures sir { (starts : Starts) (past : Past) (n : ℕ) → n < 8 → has_bit (sir_register starts past) (2 ^ n) ≡ asks starts past n }
+    ensures low { (starts : Starts) (past : Past) → interrupt_low starts past ≡ not (bit_and (sir_register starts past) (enabled_sockets past) == 0) }
 {}
