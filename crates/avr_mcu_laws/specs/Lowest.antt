@@ -1,8 +1,8 @@
 -- Which interrupt comes first (ATmega328P datasheet, "Reset and Interrupt Handling": the lower the address of a vector,
 -- the higher its priority).
 use Rattle.std.specs.Prelude.{◌≡◌, ◌≤◌, ℕ, ◌==◌, Bool, true, false, ◌&&◌, ◌⊎◌, Some, if◌then◌else◌}
-use Rattle.avr_mcu.specs.Devices.{pending}
-use Rattle.avr_mcu.specs.declared.devices.Devices.{Devices}
+use Rattle.avr_space.specs.Devices.{pending}
+use Rattle.avr_space.specs.declared.devices.Devices.{Devices}
 use Rattle.avr_ports.specs.Requests.{is_requested as is_ports_requested}
 use Rattle.avr_sheet.specs.Bits.{is_set}
 use Rattle.avr_serial.specs.Serial.{SerialState}

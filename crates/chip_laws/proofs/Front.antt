@@ -1,7 +1,7 @@
 -- What was received in the life of a connection is a front of what the link supplied in it: the two are the same until the life leaves
 -- ESTABLISHED, and later no byte is received.
 use Rattle.std.proofs.Common.{◌≡◌, ◌<◌, ℕ, ◌+◌, Bool, true, false, ◌&&◌, ◌||◌, cond, eqb, ltb, List, [], ◌∷◌, ◌++◌, length, append-nil, append_assoc, Option, None, Some, inl, inr, refl, sym, ap, ◌∙◌, subst, arith, ◌⊎◌}
-use Rattle.std.proofs.lemmas.Bool.{cases_Bool, and_left, and_right, and_parts, or_cases, ne_eqb, cond-false, cond_both, false≢true}
+use Rattle.std.proofs.lemmas.Bool.{cases_Bool, and_right, or_cases, ne_eqb, cond-false, cond_both, false≢true}
 use Rattle.chip_sheet.specs.declared.event.Addr.{Addr}
 use Rattle.chip_sheet.specs.declared.event.ConnId.{ConnId}
 use Rattle.chip_sheet.specs.declared.socket.Status.{Status}
@@ -22,6 +22,7 @@ use Rattle.chip_sheet.specs.Connections.{is_drop}
 use Rattle.chip_sheet.specs.LinkCalls.{outgoing, incoming, outgoing_in, incoming_in, connection, kept_address, kept_port, answers_call, fits}
 use Rattle.chip_sheet.specs.Legal.{Legal}
 use Rattle.chip_sheet.proofs.LifeSteps.{is_fresh, lives_grow, got_other, unborn_got}
+use Rattle.chip_sheet.proofs.MadeLaws.{neither_call, either_no, made_fresh, udp_not_made}
 use Rattle.chip_sheet.proofs.Within.{both_same}
 
 -- A link event supplies bytes to the socket's present life alone.
@@ -86,38 +87,6 @@ young_either SynSent h = inr refl
 young_either Established h = inl refl
 young_either at h = absurd (false≢true h)
 
-drop_only : (c : ConnId) (flight free : ℕ) (what : LinkEntry) → is_drop what ≡ false → answers_call (due.Drop c) flight free what ≡ false
-drop_only c flight free Dropped h = cc
-drop_only c flight free Linked h = refl
-drop_only c flight free what h = refl
-
-old_out : (old : Option ℕ) (n : ℕ) (call : Due) (flight free : ℕ) (what : LinkEntry) → is_drop what ≡ false → answers_call call flight free what ≡ false
-    → answers_call (elim old as (λ o. Due) [ None ↦ call | Some life ↦ due.Drop (connection n life) ]) flight free what ≡ false
-old_out None n call flight free what drop h = h
-old_out (Some life) n call flight free what drop h = drop_only (connection n life) flight free what drop
-
-old_in : (old : Option ℕ) (call : Due) (flight free : ℕ) (what : LinkEntry) → answers_call call flight free what ≡ false
-    → answers_call (elim old as (λ o. Due) [ None ↦ call | Some life ↦ due.Nothing ]) flight free what ≡ false
-old_in None call flight free what h = h
-old_in (Some life) call flight free what h = refl
-
--- A link event that answers no call of a socket in its status, and is no drop, does not fit.
-pub neither_call : (starts : Starts) (past : Past) (n : ℕ) (what : LinkEntry) → is_drop what ≡ false
-    → answers_call (outgoing_in (status past n) (connection n (lives past n)) (kept_address past n) (kept_port past n) (flight starts past n) (life past n).shut) (flight starts past n) (rx_free starts past n) what ≡ false
-    → answers_call (incoming_in (status past n) (connection n (lives past n)) (kept_port past n) (rx_free starts past n) (life past n).ended) (flight starts past n) (rx_free starts past n) what ≡ false
-    → fits starts past n what ≡ true → ⊥
-neither_call starts past n what drop out in_ h =
-    let fl = flight starts past n in
-    let fr = rx_free starts past n in
-    elim (or_cases (answers_call (outgoing starts past n) fl fr what) (answers_call (incoming starts past n) fl fr what) h) [
-      | inl holds ↦ false≢true (sym (old_out (life past n).old n (outgoing_in (status past n) (connection n (lives past n)) (kept_address past n) (kept_port past n) fl (life past n).shut) fl fr what drop out) ∙ holds)
-      | inr holds ↦ false≢true (sym (old_in (life past n).old (incoming_in (status past n) (connection n (lives past n)) (kept_port past n) fr (life past n).ended) fl fr what in_) ∙ holds)
-    ]
-
-either_no : (b : Bool) (x y : Due) (flight free : ℕ) (what : LinkEntry) → answers_call x flight free what ≡ false → answers_call y flight free what ≡ false → answers_call (cond b x y) flight free what ≡ false
-either_no true x y flight free what h k = h
-either_no false x y flight free what h k = k
-
 -- Events that bring bytes.
 abbrev brings : LinkEntry → Bool
 brings (Got bytes) = true
@@ -169,148 +138,6 @@ established_datagram starts past n from body on =
     neither_call starts past n (Datagram from body) refl
     (out_datagram (status past n) (connection n (lives past n)) (kept_address past n) (kept_port past n) (flight starts past n) (life past n).shut (flight starts past n) (rx_free starts past n) from body on)
     (in_datagram (status past n) (connection n (lives past n)) (kept_port past n) (rx_free starts past n) (life past n).ended (flight starts past n) (rx_free starts past n) from body on)
-
--- A connection is made of a fresh socket alone.
-abbrev connects : Due → Bool
-connects (due.Connect c to) = true
-connects call = false
-
-abbrev accepts : Due → Bool
-accepts (due.Accept c port) = true
-accepts call = false
-
-cond_no : (P : Due → Bool) (b : Bool) (x y : Due) → P x ≡ false → P y ≡ false → P (cond b x y) ≡ false
-cond_no P true x y h k = h
-cond_no P false x y h k = k
-
-out_connects : (at : Status) (c : ConnId) (to : Addr) (port flying : ℕ) (shut : Bool) → is_fresh at ≡ false → connects (outgoing_in at c to port flying shut) ≡ false
-out_connects Established c to port flying shut h = cond_no connects (ltb 0 flying) (due.Write c) due.Nothing refl refl
-out_connects CloseWait c to port flying shut h = cond_no connects (ltb 0 flying) (due.Write c) due.Nothing refl refl
-out_connects FinWait c to port flying shut h = cond_no connects (ltb 0 flying) (due.Write c) _ refl (cond_no connects shut due.Nothing (due.Shut c) refl refl)
-out_connects LastAck c to port flying shut h = cond_no connects (ltb 0 flying) (due.Write c) _ refl (cond_no connects shut due.Nothing (due.Shut c) refl refl)
-out_connects Udp c to port flying shut h = cond_no connects (ltb 0 flying) (due.SendTo c port to) due.Nothing refl refl
-out_connects SynSent c to port flying shut h = cc
-out_connects at c to port flying shut h = refl
-
-in_connects : (at : Status) (c : ConnId) (port room : ℕ) (ended : Bool) → connects (incoming_in at c port room ended) ≡ false
-in_connects Established c port room ended = cond_no connects (ltb 0 room) (due.Read c) due.Nothing refl refl
-in_connects FinWait c port room ended = cond_no connects ended due.Nothing (due.ReadAway c) refl refl
-in_connects Listen c port room ended = refl
-in_connects Udp c port room ended = refl
-in_connects at c port room ended = refl
-
-out_accepts : (at : Status) (c : ConnId) (to : Addr) (port flying : ℕ) (shut : Bool) → accepts (outgoing_in at c to port flying shut) ≡ false
-out_accepts Established c to port flying shut = cond_no accepts (ltb 0 flying) (due.Write c) due.Nothing refl refl
-out_accepts CloseWait c to port flying shut = cond_no accepts (ltb 0 flying) (due.Write c) due.Nothing refl refl
-out_accepts FinWait c to port flying shut = cond_no accepts (ltb 0 flying) (due.Write c) _ refl (cond_no accepts shut due.Nothing (due.Shut c) refl refl)
-out_accepts LastAck c to port flying shut = cond_no accepts (ltb 0 flying) (due.Write c) _ refl (cond_no accepts shut due.Nothing (due.Shut c) refl refl)
-out_accepts Udp c to port flying shut = cond_no accepts (ltb 0 flying) (due.SendTo c port to) due.Nothing refl refl
-out_accepts SynSent c to port flying shut = refl
-out_accepts at c to port flying shut = refl
-
-in_accepts : (at : Status) (c : ConnId) (port room : ℕ) (ended : Bool) → is_fresh at ≡ false → accepts (incoming_in at c port room ended) ≡ false
-in_accepts Established c port room ended h = cond_no accepts (ltb 0 room) (due.Read c) due.Nothing refl refl
-in_accepts FinWait c port room ended h = cond_no accepts ended due.Nothing (due.ReadAway c) refl refl
-in_accepts Listen c port room ended h = cc
-in_accepts Udp c port room ended h = refl
-in_accepts at c port room ended h = refl
-
-linked_call : (call : Due) (flight free : ℕ) → connects call ≡ false → answers_call call flight free Linked ≡ false
-linked_call (due.Connect c to) flight free h = cc
-linked_call call flight free h = refl
-
-accepted_call : (call : Due) (flight free : ℕ) (from : Addr) → accepts call ≡ false → answers_call call flight free (Accepted from) ≡ false
-accepted_call (due.Accept c port) flight free from h = cc
-accepted_call call flight free from h = refl
-
-made_fresh : (starts : Starts) (past : Past) (n : ℕ) (what : LinkEntry) → makes what ≡ true → fits starts past n what ≡ true → is_fresh (status past n) ≡ false → ⊥
-made_fresh starts past n Linked m h old =
-    neither_call starts past n Linked refl
-    (linked_call _ (flight starts past n) (rx_free starts past n) (out_connects (status past n) (connection n (lives past n)) (kept_address past n) (kept_port past n) (flight starts past n) (life past n).shut old))
-    (linked_call _ (flight starts past n) (rx_free starts past n) (in_connects (status past n) (connection n (lives past n)) (kept_port past n) (rx_free starts past n) (life past n).ended)) h
-made_fresh starts past n (Accepted from) m h old =
-    neither_call starts past n (Accepted from) refl
-    (accepted_call _ (flight starts past n) (rx_free starts past n) from (out_accepts (status past n) (connection n (lives past n)) (kept_address past n) (kept_port past n) (flight starts past n) (life past n).shut))
-    (accepted_call _ (flight starts past n) (rx_free starts past n) from (in_accepts (status past n) (connection n (lives past n)) (kept_port past n) (rx_free starts past n) (life past n).ended old)) h
-made_fresh starts past n what m h old = cc
-
--- A connection is made in the socket's present life alone.
-made_other : (past : Past) (entry : Entry) (n life : ℕ) → (lives past n ≡ life → ⊥) → is_made (entry ∷ past) n life ≡ is_made past n life
-made_other past (Link m what) n life h =
-    ap (λ (b : Bool). b || is_made past n life) (and_right (makes what) (is_of past m n life) (and_right (eqb m n) (eqb (lives past n) life) (ne_eqb (lives past n) life h)))
-made_other past (Bus e a) n life h = refl
-made_other past Rest n life h = refl
-
-unborn_made : (past : Past) (n life : ℕ) → lives past n < life → is_made past n life ≡ false
-unborn_made [] n life h = refl
-unborn_made (entry ∷ past) n other h =
-    let grow = lives_grow (life past n) (cause past n entry) in
-    let differs : lives past n ≡ other → ⊥ = λ (e : lives past n ≡ other). omega (arith, grow, h, e) in
-    made_other past entry n other differs ∙ unborn_made past n other (omega (arith, grow, h))
-
--- No row leads to UDP but OPEN.
-closes_not_udp : (b : Bool) → is_udp (cond b Closed FinWait) ≡ true → ⊥
-closes_not_udp true h = cc
-closes_not_udp false h = cc
-
-udp_next : (at : Status) (why : Cause) (facts : Facts) → begins why at ≡ false → is_udp (next at why facts) ≡ true → is_udp at ≡ true
-udp_next Udp why facts old h = refl
-udp_next Closed because.OpenTcp facts old h = cc
-udp_next Closed because.OpenUdp facts old h = cc
-udp_next Closed why facts old h = cc
-udp_next FinWait because.Ended facts old h = absurd (closes_not_udp facts.both h)
-udp_next FinWait because.Shut facts old h = absurd (closes_not_udp facts.both h)
-udp_next FinWait why facts old h = cc
-udp_next Init because.Reset facts old h = cc
-udp_next Init why facts old h = cc
-udp_next Listen because.Reset facts old h = cc
-udp_next Listen why facts old h = cc
-udp_next SynSent because.Reset facts old h = cc
-udp_next SynSent why facts old h = cc
-udp_next Established because.Reset facts old h = cc
-udp_next Established why facts old h = cc
-udp_next CloseWait because.Reset facts old h = cc
-udp_next CloseWait why facts old h = cc
-udp_next LastAck because.Reset facts old h = cc
-udp_next LastAck why facts old h = cc
-
-udp_from : (at : Life) (why : Cause) → is_udp (life_after at why).status ≡ true
-    → (((life_after at why).lives ≡ at.lives) × (is_udp at.status ≡ true)) ⊎ ((life_after at why).lives ≡ at.lives + 1)
-udp_from at why =
-    let after = next at.status why (facts_of why at) in
-    cond_both (begins why at.status) (new_life at after) (lives_on at why after)
-    (λ (now : Life). is_udp now.status ≡ true → ((now.lives ≡ at.lives) × (is_udp at.status ≡ true)) ⊎ (now.lives ≡ at.lives + 1))
-    (λ new h. inr refl) (λ old h. inl (refl, udp_next at.status why (facts_of why at) old h))
-
-udp_not_fresh : (at : Status) → is_udp at ≡ true → is_fresh at ≡ false
-udp_not_fresh Udp h = refl
-udp_not_fresh at h = cc
-
-made_step : (m_ of_it : Bool) (before : Bool) → (of_it ≡ true → m_ ≡ true → ⊥) → before ≡ false → ((m_ && of_it) || before) ≡ false
-made_step true true before never h = absurd (never refl refl)
-made_step true false before never h = h
-made_step false of_it before never h = h
-
--- In UDP no connection was made.
-pub udp_not_made : (starts : Starts) (past : Past) (n : ℕ) → Legal starts past → is_udp (status past n) ≡ true → is_made past n (lives past n) ≡ false
-udp_not_made starts [] n legal h = refl
-udp_not_made starts (entry ∷ past) n legal h =
-    elim (udp_from (life past n) (cause past n entry) h) [
-      | inl (same, udp) ↦ ap (is_made (entry ∷ past) n) same ∙ stays starts past entry n legal udp (udp_not_made starts past n legal.1 udp)
-      | inr begun ↦
-          ap (is_made (entry ∷ past) n) begun
-          ∙ made_other past entry n (lives past n + 1) (λ e. omega (arith, e))
-          ∙ unborn_made past n (lives past n + 1) (omega arith)
-    ]
-  where
-    stays : (starts : Starts) (past : Past) (entry : Entry) (n : ℕ) → Legal starts (entry ∷ past) → is_udp (status past n) ≡ true → is_made past n (lives past n) ≡ false
-        → is_made (entry ∷ past) n (lives past n) ≡ false
-    stays starts past (Link m what) n legal udp before =
-        made_step (makes what) (is_of past m n (lives past n)) (is_made past n (lives past n))
-        (λ of_it m_. made_fresh starts past n what m_ (subst (λ (k : ℕ). fits starts past k what ≡ true) (both_same m n (lives past n) (lives past n) of_it).0 legal.0.1) (udp_not_fresh (status past n) udp))
-        before
-    stays starts past (Bus e a) n legal udp before = before
-    stays starts past Rest n legal udp before = before
 
 -- What is put into the buffer of a young socket is what is supplied.
 not_brought : (what : LinkEntry) → brings what ≡ false → bytes_of what ≡ []

@@ -131,6 +131,7 @@ pub fn sends_where_the_registers_say()
     ensures taken { due_after (opened_for_udp_7 ∷ line "L 00 0C EC 0A 00 00 02 17 70 H L 00 25 EC 02 H L 00 01 EC 20 H" ∷ line "@7:took:2" ∷ []) 14 ≡ Some due.Nothing }
     ensures empty { due_after (opened_for_udp_7 ∷ line "L 00 0C EC 0A 00 00 02 17 70 H L 00 01 EC 20 H" ∷ []) 14 ≡ Some due.Nothing }
     ensures receive { due_after (opened_for_udp_7 ∷ line "L 00 05 EC 01 H" ∷ []) 15 ≡ Some (due.RecvFrom (connection 7 1) 5000) }
+    ensures receive_as_before { due_after (opened_for_udp_7 ∷ line "L 00 04 EC 17 70 H L 00 01 EC 01 H L 00 01 EC 02 H" ∷ []) 15 ≡ Some (due.RecvFrom (connection 7 1) 5000) }
     ensures receive_without_room { due_after (line "L 00 1E EC 00 H" ∷ opened_for_udp_7 ∷ []) 15 ≡ Some (due.RecvFrom (connection 7 1) 5000) }
     ensures sent { sent_after (opened_for_udp_7 ∷ line "L 00 0C EC 0A 00 00 02 17 70 H L 00 00 F4 68 69 H L 00 25 EC 02 H" ∷ line "L 00 01 EC 20 H @7:took:2 L 00 02 F4 6A H L 00 25 EC 03 H" ∷ line "L 00 01 EC 20 H" ∷ []) 7 1 ≡ Some (0x68 ∷ 0x69 ∷ 0x6A ∷ []) }
     ensures destinations { destinations_after (opened_for_udp_7 ∷ line "L 00 0C EC 0A 00 00 02 17 70 H L 00 25 EC 02 H L 00 01 EC 20 H" ∷ line "@7:took:2 L 00 01 EC 20 H L 00 0F EC 09 H L 00 25 EC 03 H" ∷ line "L 00 01 EC 20 H L 00 0F EC 01 H" ∷ []) 7 1 ≡ Some (record { ip = 10 ∷ 0 ∷ 0 ∷ 2 ∷ []; port = 6000 } ∷ record { ip = 10 ∷ 0 ∷ 0 ∷ 9 ∷ []; port = 6000 } ∷ []) }

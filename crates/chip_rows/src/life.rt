@@ -123,8 +123,15 @@ pub fn closes_behind_the_peer()
 
 /// This side ends first: FIN_WAIT, until the link was shut and the peer has ended, which raises DISCON.
 pub fn closes_first()
-    ensures { Prints (
+    ensures once { Prints (
         connected
+        ∷ "L 00 01 0C 08 H @0:shut L 00 02 08 00 00 H" prints "00 00 00 00 00 00 00 01 18"
+        ∷ "@0:ended L 00 02 08 00 00 H" prints "00 00 00 03 00"
+        ∷ []) }
+    ensures in_the_next_life { Prints (
+        connected
+        ∷ "L 00 01 0C 08 H @0:shut @0:ended @0:dropped L 00 02 0C 1F H" prints "00 00 00 00 00 00 00 00"
+        ∷ "L 00 01 0C 01 H L 00 01 0C 04 H @0:linked" prints "00 00 00 00 00 00 00 00"
         ∷ "L 00 01 0C 08 H @0:shut L 00 02 08 00 00 H" prints "00 00 00 00 00 00 00 01 18"
         ∷ "@0:ended L 00 02 08 00 00 H" prints "00 00 00 03 00"
         ∷ []) }

@@ -61,6 +61,8 @@ pub fn asks_for_a_connection()
     ensures nothing_out { due_after (opened_7 ∷ []) 14 ≡ Some due.Nothing }
     ensures nothing_in { due_after (opened_7 ∷ []) 15 ≡ Some due.Nothing }
     ensures other_socket { due_after (opened_7 ∷ line "L 00 01 EC 02 H" ∷ []) 1 ≡ Some due.Nothing }
+    ensures connect_again { due_after (opened_7 ∷ line "L 00 0C EC 0A 00 00 02 13 88 H L 00 01 EC 04 H L 00 0C EC 01 H" ∷ line "L 00 01 EC 04 H" ∷ []) 14 ≡ Some (due.Connect (connection 7 1) (record { ip = 10 ∷ 0 ∷ 0 ∷ 2 ∷ []; port = 5000 })) }
+    ensures listen_again { due_after (opened_7 ∷ line "L 00 04 EC 13 88 H L 00 01 EC 02 H L 00 05 EC 01 H L 00 01 EC 02 H" ∷ []) 15 ≡ Some (due.Accept (connection 7 1) 5000) }
 {}
 
 /// What is due on a connection: a read while the buffer has room, a write while bytes are in flight; once this side has ended,
@@ -91,6 +93,7 @@ pub fn drops_an_old_life()
     ensures later_is_none { due_after (connected ∷ line "L 00 01 0C 10 H L 00 01 0C 01 H L 00 01 0C 04 H L 00 00 04 80 H" ∷ line "@0:dropped" ∷ []) 0 ≡ Some due.Nothing }
     ensures second { due_after (connected ∷ line "L 00 01 0C 10 H @0:dropped L 00 01 0C 01 H L 00 01 0C 02 H" ∷ line "L 00 01 0C 10 H" ∷ []) 0 ≡ Some (due.Drop (connection 0 2)) }
     ensures unlinked { due_after (opened ∷ line "L 00 01 0C 10 H" ∷ []) 0 ≡ Some due.Nothing }
+    ensures unlinked_again { due_after (connected ∷ line "L 00 01 0C 10 H @0:dropped L 00 01 0C 01 H L 00 01 0C 10 H" ∷ []) 0 ≡ Some due.Nothing }
     ensures refused { due_after (opened ∷ line "L 00 01 0C 04 H @0:refused" ∷ []) 0 ≡ Some (due.Drop (connection 0 1)) }
 {}
 

@@ -37,9 +37,9 @@ bit_sum_small f (suc count) =
     let twice = pow_suc count in
     small (f count) (bit_sum f count) (2 ^ count) (2 ^ suc count) less twice
   where
-  small : (b : Bool) (s w v : ℕ) → s < w → v ≡ 2 * w → s + cond b w 0 < v
-  small true s w v h e = omega arith
-  small false s w v h e = omega arith
+    small : (b : Bool) (s w v : ℕ) → s < w → v ≡ 2 * w → s + cond b w 0 < v
+    small true s w v h e = omega arith
+    small false s w v h e = omega arith
 
 no_bits : (b : Bool) (j : ℕ) → bit_at (cond b 1 0) (suc j) ≡ 0
 no_bits b j = bit_at_above (cond b 1 0) 1 (suc j) (bit_small b) (omega arith)
@@ -96,11 +96,12 @@ none_both : (m : ℕ) (b : Bool) → m < 2 → (eqb m 1 && b) ≡ false → min 
 none_both m false less h = omega arith
 none_both m true less h = let other = eqb-false m 1 (from_and (eqb m 1) h) in zero_of m less other
   where
-  from_and : (a : Bool) → (a && true) ≡ false → a ≡ false
-  from_and true h = cc
-  from_and false h = refl
-  zero_of : (m : ℕ) → m < 2 → (m ≡ 1 → ⊥) → min 1 m ≡ 0
-  zero_of m less other = elim (cases_lt 0 m) [ inl some ↦ absurd (other (omega arith)) | inr none ↦ omega (arith, none) ]
+    from_and : (a : Bool) → (a && true) ≡ false → a ≡ false
+    from_and true h = cc
+    from_and false h = refl
+
+    zero_of : (m : ℕ) → m < 2 → (m ≡ 1 → ⊥) → min 1 m ≡ 0
+    zero_of m less other = elim (cases_lt 0 m) [ inl some ↦ absurd (other (omega arith)) | inr none ↦ omega (arith, none) ]
 
 not_zero : (x : ℕ) → (x ≡ 0 → ⊥) → not (eqb x 0) ≡ true
 not_zero x h = elim (cases_Bool (eqb x 0)) [ inl is ↦ absurd (h (eqb-true x 0 is)) | inr other ↦ ap not other ]

@@ -277,10 +277,10 @@ sending_same starts past entry n h on = λ i. record {
   tx = λ at. tx_same past entry n at h i;
   base = opened_number (is_opened past n) (is_opened (entry ∷ past) n) (tx_base starts (entry ∷ past) n (lives (entry ∷ past) n)) (tx_base starts past n (lives past n)) on.opened (tx_base_same starts past entry n on) i;
   sent = opened_list (is_opened past n) (is_opened (entry ∷ past) n) (sent starts (entry ∷ past) n (lives (entry ∷ past) n)) (sent starts past n (lives past n)) on.opened
-  (of_present (sent starts (entry ∷ past) n) (sent starts past n) (life past n) (life (entry ∷ past) n) on.life on.sent) i;
+      (of_present (sent starts (entry ∷ past) n) (sent starts past n) (life past n) (life (entry ∷ past) n) on.life on.sent) i;
   flight = on.flight i;
   ends = opened_list (is_opened past n) (is_opened (entry ∷ past) n) (ends starts (entry ∷ past) n (lives (entry ∷ past) n)) (ends starts past n (lives past n)) on.opened
-  (of_present (ends starts (entry ∷ past) n) (ends starts past n) (life past n) (life (entry ∷ past) n) on.life on.ends) i;
+      (of_present (ends starts (entry ∷ past) n) (ends starts past n) (life past n) (life (entry ∷ past) n) on.life on.ends) i;
   wr_high = pointer_same past entry n 0x24 (byte_of 0 starts.tx) h.nothing (not_written (access_of past entry) (registers_of n) 0x24 h.registers) i;
   wr_low = pointer_same past entry n 0x25 (byte_of 1 starts.tx) h.nothing (not_written (access_of past entry) (registers_of n) 0x25 h.registers) i;
 }
@@ -290,7 +290,7 @@ receiving_same starts past entry n h on = λ i. record {
   size = size_kept past entry rx_sizes n (no_reset past entry n h.nothing) h.rx_sizes i;
   base = opened_number (is_opened past n) (is_opened (entry ∷ past) n) (rx_base starts (entry ∷ past) n (lives (entry ∷ past) n)) (rx_base starts past n (lives past n)) on.opened (rx_base_same starts past entry n on) i;
   got = opened_list (is_opened past n) (is_opened (entry ∷ past) n) (got starts (entry ∷ past) n (lives (entry ∷ past) n)) (got starts past n (lives past n)) on.opened
-  (of_present (got starts (entry ∷ past) n) (got starts past n) (life past n) (life (entry ∷ past) n) on.life on.got) i;
+      (of_present (got starts (entry ∷ past) n) (got starts past n) (life past n) (life (entry ∷ past) n) on.life on.got) i;
   unread = on.unread i;
   rd_high = pointer_same past entry n 0x28 (byte_of 0 starts.rx) h.nothing (not_written (access_of past entry) (registers_of n) 0x28 h.registers) i;
   rd_low = pointer_same past entry n 0x29 (byte_of 1 starts.rx) h.nothing (not_written (access_of past entry) (registers_of n) 0x29 h.registers) i;

@@ -62,3 +62,12 @@ pub record LeavesAll (starts : Starts) (past : Past) (entry : Entry) (n : ℕ) :
   pub receiving : receiving starts (entry ∷ past) n ≡ receiving starts past n
   pub outgoing : outgoing starts (entry ∷ past) n ≡ outgoing starts past n
   pub incoming : incoming starts (entry ∷ past) n ≡ incoming starts past n
+
+-- An entry leaves the lists and counts of a life of socket n.
+pub record LeavesOther (starts : Starts) (past : Past) (entry : Entry) (n life : ℕ) : Type 0 where
+  pub sent : sent starts (entry ∷ past) n life ≡ sent starts past n life
+  pub taken : taken (entry ∷ past) n life ≡ taken past n life
+  pub got : got starts (entry ∷ past) n life ≡ got starts past n life
+  pub supplied : supplied (entry ∷ past) n life ≡ supplied past n life
+  pub destinations : destinations starts (entry ∷ past) n life ≡ destinations starts past n life
+  pub released : released starts (entry ∷ past) n life ≡ released starts past n life

@@ -1,34 +1,45 @@
-// Laws of the sockets' definitions, each the contract of an empty function.
-ghost use Rattle.std.specs.Prelude.{◌≡◌, ◌≤◌, ◌<◌, ◌↔◌, ◌==◌, not, bit_and, ℕ, ◌+◌, ◌*◌, ◌%◌, ◌^◌, List, ◌∷◌, ◌++◌, length, slice_get, slice_index, Some, true, false};
+//! Laws of the sockets' definitions, each the contract of an empty function.
+ghost use Rattle.std.specs.Prelude.{◌≡◌, ◌≤◌, ◌<◌, ◌↔◌, ◌==◌, not, bit_and, ℕ, ◌+◌, ◌-◌, ◌*◌, ◌%◌, ◌^◌, ◌⊎◌, List, [], ◌∷◌, ◌++◌, length, take, slice_get, slice_index, Some, None, true, false, if◌then◌else◌};
 ghost use Rattle.std.specs.Option.{IsSome};
+ghost use Rattle.board_bus.specs.declared.event.BusEvent.{BusEvent};
 ghost use Rattle.board_bus.specs.declared.event.BusEvent.TheVariants.{Byte};
+ghost use Rattle.board_bus.specs.declared.event.BusAnswer.{BusAnswer};
+ghost use Rattle.chip_sheet.specs.declared.event.Entry.TheVariants.{Bus, Link};
+ghost use Rattle.chip_sheet.specs.declared.event.LinkEntry.TheVariants.{Took, Datagram};
+ghost use Rattle.chip_sheet.specs.declared.event.Addr.{Addr};
+ghost use Rattle.chip_sheet.specs.declared.stop.ChipStop.TheVariants.{SendBusy};
+ghost use Rattle.chip_sheet.specs.declared.socket.Interrupt.TheVariants.{Received};
 ghost use Rattle.board_bus.specs.declared.event.BusAnswer.TheVariants.{Out};
-ghost use Rattle.chip_sheet.specs.declared.phase.Access.TheVariants.{NoAccess};
-ghost use Rattle.chip_sheet.specs.declared.socket.Status.TheVariants.{Closed};
+ghost use Rattle.chip_sheet.specs.declared.phase.Access.TheVariants.{NoAccess, Write};
+ghost use Rattle.chip_sheet.specs.declared.socket.Status.TheVariants.{Closed, Established, FinWait, CloseWait, LastAck, Udp};
 ghost use Rattle.chip_sheet.specs.declared.socket.Cause.TheVariants.{Send};
 ghost use Rattle.chip_sheet.specs.declared.event.Entry.{Entry};
-ghost use Rattle.chip_sheet.specs.declared.event.LinkEntry.{LinkEntry};
 ghost use Rattle.chip_sheet.specs.Past.{Past, GoesOn};
-ghost use Rattle.chip_sheet.specs.Frames.{access, access_of, is_low};
+ghost use Rattle.chip_sheet.specs.Frames.{access, access_of};
 ghost use Rattle.chip_sheet.specs.Registers.{is_reset};
-ghost use Rattle.chip_sheet.specs.Life.{cause, status, lives, is_closed};
+ghost use Rattle.chip_sheet.specs.Life.{cause, status, lives, old, is_closed, is_udp};
 ghost use Rattle.chip_sheet.specs.Sizes.{is_size, tx_size, rx_size};
-ghost use Rattle.chip_sheet.specs.Streams.{Starts, sent, taken, got, released, tx_byte, tx_base, rx_base, is_open};
-ghost use Rattle.chip_sheet.specs.Windows.{flight, unread, rx_byte, in_flight_at};
-ghost use Rattle.chip_sheet.specs.Answers.{answer};
-ghost use Rattle.chip_sheet.specs.Legal.{Legal};
-ghost use Rattle.chip_sheet.specs.Replay.{Step, Happens, AllTaken, told};
+ghost use Rattle.chip_sheet.specs.Streams.{Starts, sent, sends, range, range_length, taken, got, released, tx_byte, tx_base, rx_base, is_open, is_made, header};
+ghost use Rattle.chip_sheet.specs.Windows.{flight, unread, tx_free, rx_free, rx_byte, in_flight_at, offered_length, offered, room_length};
+ghost use Rattle.chip_sheet.specs.Answers.{answer, byte_at};
+ghost use Rattle.chip_sheet.specs.Legal.{Legal, FitsAfter};
 ghost use Rattle.chip_sheet.specs.Bits.{has_bit};
-ghost use Rattle.chip_sheet.specs.Interrupts.{bit_value, raised, interrupt_register, mask, asks, sir_register, enabled_sockets, interrupt_low};
+ghost use Rattle.chip_sheet.specs.Interrupts.{bit_value, raised_by, raised, interrupt_register, mask, asks, sir_register, enabled_sockets, interrupt_low};
 ghost use Rattle.chip_sheet.specs.declared.socket.Interrupt.{Interrupt};
-ghost use Rattle.chip_sheet.specs.Quiet.{LeavesLife, Untouched, LeavesAll};
-ghost use Rattle.chip_sheet.specs.declared.socket.Cause.TheVariants.{Nothing};
-
-/// A byte that makes no access is answered FF while the select line is high, and 00 while it is low.
-pub fn idle_answer()
-    ensures high { (starts : Starts) (past : Past) (v : ℕ) → access past (Byte v) ≡ NoAccess → is_low past ≡ false → answer starts past (Byte v) ≡ Out 0xFF }
-    ensures low { (starts : Starts) (past : Past) (v : ℕ) → access past (Byte v) ≡ NoAccess → is_low past ≡ true → answer starts past (Byte v) ≡ Out 0x00 }
-{}
+ghost use Rattle.chip_sheet.specs.declared.socket.Due.{Due};
+ghost use Rattle.chip_sheet.specs.declared.block.Block.{Block};
+ghost use Rattle.chip_sheet.specs.declared.block.Block.TheVariants.{Registers, TxBuffer, RxBuffer};
+ghost use Rattle.chip_sheet.specs.Blocks.{block_of, registers_of, tx_buffer_of, rx_buffer_of};
+ghost use Rattle.chip_sheet.specs.LinkCalls.{outgoing, incoming, connection, kept_address, kept_port, fits};
+ghost use Rattle.chip_sheet.specs.LinkAnswers.{LinkAnswer, entry_by, may_answer};
+ghost use Rattle.chip_sheet.specs.Sending.{fresh};
+ghost use Rattle.chip_sheet.specs.Receiving as receiving_of;
+ghost use Rattle.chip_sheet.specs.Buffers.{sending, receiving};
+ghost use Rattle.chip_sheet.specs.Quiet.{LeavesLife, Untouched, LeavesAll, LeavesOther};
+ghost use Rattle.chip_sheet.specs.declared.socket.Cause.TheVariants.{Nothing, Dropped};
+ghost use Rattle.chip_sheet.specs.declared.socket.Due.TheVariants as due;
+ghost use Rattle.chip_sheet.specs.Names.{sn_cr, send_command};
+ghost use Rattle.chip_sheet.specs.Stops.{stop};
 
 /// What was sent in a life of a socket stays: at each later moment it is a front of what is sent then.
 pub fn sent_stays()
@@ -64,20 +75,6 @@ pub fn reset_empties()
 /// A position and the pointer that shows it, modulo 65,536, name the same place of a buffer of any size that there is.
 pub fn same_place()
     ensures { (kilobytes at : ℕ) → is_size kilobytes ≡ true → 0 < kilobytes → at % 65536 % (kilobytes * 1024) ≡ at % (kilobytes * 1024) }
-{}
-
-/// What the first steps of a script are told stays, whatever comes behind them: where all of them were taken, the whole script is
-/// told what they are, and then what the others are from there on. What had happened before a script stays behind what it adds.
-pub fn answers_stay()
-    ensures answers { (starts : Starts) (past : Past) (xs ys : List Step) → (told starts past xs).ending ≡ AllTaken → (told starts past (xs ++ ys)).answers ≡ (told starts past xs).answers ++ (told starts (told starts past xs).past ys).answers }
-    ensures goes_on { (starts : Starts) (past : Past) (xs ys : List Step) → (told starts past xs).ending ≡ AllTaken → (told starts past (xs ++ ys)).past ≡ (told starts (told starts past xs).past ys).past }
-    ensures ends { (starts : Starts) (past : Past) (xs ys : List Step) → (told starts past xs).ending ≡ AllTaken → (told starts past (xs ++ ys)).ending ≡ (told starts (told starts past xs).past ys).ending }
-    ensures keeps { (starts : Starts) (past : Past) (xs : List Step) → GoesOn past (told starts past xs).past }
-{}
-
-/// Steps that follow a legal history make a legal one, where their link events are of the eight sockets.
-pub fn told_is_legal()
-    ensures { (starts : Starts) (past : Past) (xs : List Step) → Legal starts past → ((i n : ℕ) (what : LinkEntry) → slice_get xs i ≡ Some (Happens n what) → n < 8) → Legal starts (told starts past xs).past }
 {}
 
 /// A byte in flight stands at the place of an address exactly where the buffer has a size and the position of some byte in flight
@@ -129,4 +126,82 @@ pub fn interrupts_as_bits()
     ensures asks { (starts : Starts) (past : Past) (n : ℕ) → asks starts past n ≡ not (bit_and (interrupt_register starts past n) (mask past n) == 0) }
     ensures sir { (starts : Starts) (past : Past) (n : ℕ) → n < 8 → has_bit (sir_register starts past) (2 ^ n) ≡ asks starts past n }
     ensures low { (starts : Starts) (past : Past) → interrupt_low starts past ≡ not (bit_and (sir_register starts past) (enabled_sockets past) == 0) }
+{}
+
+/// What a link may answer to a call that is due, within what is offered to it or may be read at once, adds an entry that fits; and
+/// what it took of the offered bytes goes on behind what it took before.
+pub fn answers_fit()
+    ensures fits { (starts : Starts) (past : Past) (n : ℕ) (call : Due) (answer : LinkAnswer) → n < 8 → (outgoing starts past n ≡ call) ⊎ (incoming starts past n ≡ call)
+        → may_answer call (offered_length starts past n) (room_length starts past n) answer ≡ true → FitsAfter starts past (entry_by n (flight starts past n) call answer) }
+    ensures given { (starts : Starts) (past : Past) (n k : ℕ) → is_open (status past n) ≡ true → k ≤ offered_length starts past n
+        → take (taken past n (lives past n) + k) (sent starts past n (lives past n)) ≡ take (taken past n (lives past n)) (sent starts past n (lives past n)) ++ take k (offered starts past n) }
+{}
+
+/// After a reset each address of each block reads what it reads after power-on, INTn is high, and both directions of each socket are
+/// fresh, with buffers of 2 KB.
+pub fn reset_restores()
+    ensures reads { (starts : Starts) (past : Past) (entry : Entry) (block : Block) (at : ℕ) → is_reset (access_of past entry) ≡ true → byte_at starts (entry ∷ past) block at ≡ byte_at starts [] block at }
+    ensures line { (starts : Starts) (past : Past) (entry : Entry) → is_reset (access_of past entry) ≡ true → interrupt_low starts (entry ∷ past) ≡ false }
+    ensures sending { (starts : Starts) (past : Past) (entry : Entry) (n : ℕ) → is_reset (access_of past entry) ≡ true → sending starts (entry ∷ past) n ≡ fresh 2048 }
+    ensures receiving { (starts : Starts) (past : Past) (entry : Entry) (n : ℕ) → is_reset (access_of past entry) ≡ true → receiving starts (entry ∷ past) n ≡ receiving_of.fresh 2048 }
+{}
+
+/// The select bits 4n + 1, 4n + 2 and 4n + 3 are the registers, the TX buffer and the RX buffer of socket n.
+pub fn blocks_of_a_socket()
+    ensures registers { (n : ℕ) → block_of (registers_of n) ≡ Registers n }
+    ensures tx { (n : ℕ) → block_of (tx_buffer_of n) ≡ TxBuffer n }
+    ensures rx { (n : ℕ) → block_of (rx_buffer_of n) ≡ RxBuffer n }
+{}
+
+/// An open socket has a made connection, but in UDP, where in a legal history there is none.
+pub fn open_is_made()
+    ensures tcp { (past : Past) (n : ℕ) → is_open (status past n) ≡ true → is_udp (status past n) ≡ false → is_made past n (lives past n) ≡ true }
+    ensures udp { (starts : Starts) (past : Past) (n : ℕ) → Legal starts past → is_udp (status past n) ≡ true → is_made past n (lives past n) ≡ false }
+{}
+
+/// The lives of a socket: each entry begins at most one; the one that the link is still to forget is closed, an earlier one
+/// or the last, and stays so until it is dropped; and an entry changes the lists and counts of the present life alone.
+pub fn lives_of_a_socket()
+    ensures few { (past : Past) (n : ℕ) → lives past n ≤ length past }
+    ensures old { (past : Past) (n life : ℕ) → old past n ≡ Some life → (life ≤ lives past n) × (life ≡ lives past n → is_closed (status past n) ≡ true) }
+    ensures stays { (past : Past) (entry : Entry) (n life : ℕ) → (cause past n entry ≡ Dropped → ⊥) → old past n ≡ Some life → old (entry ∷ past) n ≡ Some life }
+    ensures others { (starts : Starts) (past : Past) (entry : Entry) (n life : ℕ) → (lives past n ≡ life → ⊥) → LeavesOther starts past entry n life }
+{}
+
+/// A SEND that fits goes through, in UDP where no datagram is in flight, and adds exactly its range to what was sent.
+pub fn send_that_fits()
+    ensures goes { (starts : Starts) (past : Past) (e : BusEvent) (n : ℕ) → access past e ≡ Write (registers_of n) sn_cr send_command → sends (status past n) ≡ true
+        → (is_udp (status past n) ≡ true → flight starts past n ≡ 0) → range_length starts past n (length (sent starts past n (lives past n))) ≤ tx_free starts past n
+        → stop starts past e ≡ None }
+    ensures adds { (starts : Starts) (past : Past) (e : BusEvent) (a : BusAnswer) (n : ℕ) → access past e ≡ Write (registers_of n) sn_cr send_command → sends (status past n) ≡ true
+        → sent starts (Bus e a ∷ past) n (lives past n) ≡ sent starts past n (lives past n) ++ range starts past n (length (sent starts past n (lives past n))) }
+{}
+
+/// In each status of a connection, after DISCON and after the peer's end too, and in UDP, what was sent and not taken is in flight, and
+/// what was received and not released is unread. While no old life is there, what is in flight is due.
+pub fn windows_of_a_connection()
+    ensures flight { (starts : Starts) (past : Past) (n : ℕ) → (status past n ≡ Established) ⊎ ((status past n ≡ FinWait) ⊎ ((status past n ≡ CloseWait) ⊎ ((status past n ≡ LastAck) ⊎ (status past n ≡ Udp))))
+        → flight starts past n ≡ length (sent starts past n (lives past n)) - taken past n (lives past n) }
+    ensures unread { (starts : Starts) (past : Past) (n : ℕ) → (status past n ≡ Established) ⊎ ((status past n ≡ FinWait) ⊎ ((status past n ≡ CloseWait) ⊎ ((status past n ≡ LastAck) ⊎ (status past n ≡ Udp))))
+        → unread starts past n ≡ length (got starts past n (lives past n)) - released starts past n (lives past n) }
+    ensures due { (starts : Starts) (past : Past) (n : ℕ) → old past n ≡ None → 0 < flight starts past n
+        → (outgoing starts past n ≡ due.Write (connection n (lives past n))) ⊎ (outgoing starts past n ≡ due.SendTo (connection n (lives past n)) (kept_port past n) (kept_address past n)) }
+{}
+
+/// A byte that is written to a TX buffer is read at each address of its place, and no other byte of the buffer changes.
+pub fn written_reads_back()
+    ensures { (past : Past) (entry : Entry) (n addr v at : ℕ) → access_of past entry ≡ Write (tx_buffer_of n) addr v → 0 < tx_size past n
+        → tx_byte (entry ∷ past) n at ≡ (if addr % tx_size past n == at % tx_size past n then v else tx_byte past n at) }
+{}
+
+/// Datagrams. While one is in flight another SEND stops; the link takes it whole. One that comes is put with a header of eight bytes
+/// where that and its body are free, and raises RECV; else it is lost, and raises nothing.
+pub fn datagrams()
+    ensures busy { (starts : Starts) (past : Past) (e : BusEvent) (n : ℕ) → access past e ≡ Write (registers_of n) sn_cr send_command → status past n ≡ Udp → 0 < flight starts past n → stop starts past e ≡ Some (SendBusy n) }
+    ensures whole { (starts : Starts) (past : Past) (n k : ℕ) → status past n ≡ Udp → fits starts past n (Took k) ≡ true → k ≡ flight starts past n }
+    ensures put { (starts : Starts) (past : Past) (n : ℕ) (from : Addr) (body : List ℕ) → status past n ≡ Udp → 8 + length body ≤ rx_free starts past n
+        → (got starts (Link n (Datagram from body) ∷ past) n (lives past n) ≡ got starts past n (lives past n) ++ (header from (length body) ++ body)) × (raised_by starts past n Received (Link n (Datagram from body)) ≡ true) }
+    ensures lost { (starts : Starts) (past : Past) (n : ℕ) (from : Addr) (body : List ℕ) → status past n ≡ Udp → rx_free starts past n < 8 + length body
+        → (got starts (Link n (Datagram from body) ∷ past) n (lives past n) ≡ got starts past n (lives past n)) × (raised_by starts past n Received (Link n (Datagram from body)) ≡ false) }
+    ensures header { (from : Addr) (count : ℕ) → length (header from count) ≡ 8 }
 {}

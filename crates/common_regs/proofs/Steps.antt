@@ -1,5 +1,5 @@
 -- The steps of the registers beside the definitions over a history.
-use Rattle.std.proofs.Common.{◌≡◌, ℕ, Bool, true, false, ◌&&◌, eqb, if◌then◌else◌, Option, Some, None, ◌∷◌, refl, sym, ap, ◌∙◌}
+use Rattle.std.proofs.Common.{◌≡◌, ℕ, Bool, true, false, eqb, if◌then◌else◌, Option, Some, None, ◌∷◌, refl, sym, ap, ◌∙◌}
 use Rattle.std.proofs.lemmas.Bool.{eqb-true}
 use Rattle.std.specs.Option.{option_or, is_some}
 use Rattle.std.specs.Prelude.{unwrap_or}
@@ -18,7 +18,7 @@ use Rattle.chip_sheet.specs.Answers.{common_byte}
 use Rattle.chip_sheet.specs.Interrupts.{sir_register}
 use Rattle.chip_sheet.specs.Stops.{where_it}
 use Rattle.chip_sheet.specs.Streams.{Starts}
-use Rattle.common_regs.specs.Places.{kept_of, reset_value, after_write, read_at}
+use Rattle.common_regs.specs.Places.{kept_of, after_write, read_at}
 
 -- a stop stands exactly where its test holds
 pub stands_where : (b : Bool) (stop : ChipStop) → is_some (where_it b stop) ≡ b

@@ -1,4 +1,5 @@
-// Commands: what a command byte asks of a socket, and what it comes to (W5500 datasheet, 4.2 Sn_CR).
+//! Commands: what a command byte asks of a socket, and what it comes to (W5500 datasheet, 4.2 Sn_CR).
+
 ghost use Rattle.std.specs.Prelude.{◌≡◌};
 ghost use Rattle.chip_sheet.specs.Life as sheet;
 ghost use Rattle.sock_cmd.specs.Effects as effects;

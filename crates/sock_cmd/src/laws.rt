@@ -1,4 +1,5 @@
-// Laws of a socket's life, for the chip that holds eight of them; each is the contract of an empty function.
+//! Laws of a socket's life, for the chip that holds eight of them; each is the contract of an empty function.
+
 ghost use Rattle.std.specs.Prelude.{◌≡◌, ◌<◌, ℕ, ◌/◌, Bool, List, [], ◌∷◌, length, slice_set, None};
 ghost use Rattle.chip_sheet.specs.declared.socket.Status.{Status};
 ghost use Rattle.chip_sheet.specs.declared.socket.Cause.{Cause};

@@ -1,4 +1,5 @@
-// One socket: its life, the address and the port that it keeps, and what is due.
+//! One socket: its life, the address and the port that it keeps, and what is due.
+
 ghost use Rattle.std.specs.Prelude.{◌≡◌, ◌<◌, ◌^◌, ℕ, [], None, Some, true, IfOk, OnOk, IfErr, OnErr, if◌then◌else◌};
 ghost use Rattle.chip_sheet.specs.declared.event.Addr.{Addr};
 ghost use Rattle.chip_sheet.specs.declared.socket.Cause.TheVariants as because;

@@ -1,4 +1,5 @@
-// The stops of a command that need no buffer (this profile's own): each is a row of its own, and the first that holds counts.
+//! The stops of a command that need no buffer (this profile's own): each is a row of its own, and the first that holds counts.
+
 ghost use Rattle.std.specs.Prelude.{◌≡◌};
 ghost use Rattle.chip_sheet.specs.Stops as rows;
 ghost use Rattle.sock_cmd.specs.LifeStops as stops;

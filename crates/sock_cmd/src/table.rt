@@ -1,5 +1,6 @@
-// The table of socket life, and what is asked of a status and of what happens (W5500 datasheet, 4.2 Sn_CR and Sn_SR, figure 4 state
-// diagram; the rules on links are this profile's own).
+//! The table of socket life, and what is asked of a status and of what happens (W5500 datasheet, 4.2 Sn_CR and Sn_SR, figure 4 state
+//! diagram; the rules on links are this profile's own).
+
 ghost use Rattle.std.specs.Prelude.{◌≡◌};
 ghost use Rattle.chip_sheet.specs.Life as sheet;
 ghost use Rattle.chip_sheet.specs.LinkCalls as calls;

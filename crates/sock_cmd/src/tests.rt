@@ -1,4 +1,5 @@
-// Worked steps of one socket, number 3, whose outgoing place is 6 and whose incoming place is 7.
+//! Worked steps of one socket, number 3, whose outgoing place is 6 and whose incoming place is 7.
+
 use crate::command::{CmdAt, Effect};
 use crate::life::Life;
 use Step::{Command, Link, Reset, Unsized};
