@@ -21,3 +21,4 @@ pub mod MadeLaws
 pub mod LivesLaws
 pub mod SendLaws
 pub mod DatagramLaws
+pub mod SendingSteps

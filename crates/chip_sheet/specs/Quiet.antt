@@ -1,19 +1,22 @@
 -- What stays of a socket when an entry does not concern it.
-use Rattle.std.specs.Prelude.{◌≡◌, ℕ, List, Bool, false, ◌==◌, ◌∷◌, Option}
+use Rattle.std.specs.Prelude.{◌≡◌, ℕ, ◌+◌, List, Bool, false, not, ◌==◌, ◌∷◌, Option, None}
 use Rattle.chip_sheet.specs.declared.event.Addr.{Addr}
 use Rattle.chip_sheet.specs.declared.event.Entry.{Entry}
 use Rattle.chip_sheet.specs.declared.phase.Access.{Access}
 use Rattle.chip_sheet.specs.declared.phase.Access.TheVariants.{NoAccess, Read, Write}
+use Rattle.chip_sheet.specs.declared.socket.Status.{Status}
+use Rattle.chip_sheet.specs.declared.socket.Cause.{Cause}
 use Rattle.chip_sheet.specs.declared.socket.Cause.TheVariants as because
 use Rattle.chip_sheet.specs.declared.socket.Interrupt.{Interrupt}
 use Rattle.chip_sheet.specs.Past.{Past}
 use Rattle.chip_sheet.specs.Frames.{access_of}
+use Rattle.chip_sheet.specs.Names.{sn_tx_wr}
 use Rattle.chip_sheet.specs.Blocks.{registers_of, tx_buffer_of}
-use Rattle.chip_sheet.specs.Registers.{last_written}
-use Rattle.chip_sheet.specs.Life.{life, cause}
+use Rattle.chip_sheet.specs.Registers.{is_reset, written_by, last_written}
+use Rattle.chip_sheet.specs.Life.{life, cause, begins}
 use Rattle.chip_sheet.specs.Sizes.{tx_sizes, rx_sizes, resizes}
 use Rattle.chip_sheet.specs.Peers.{peer_byte}
-use Rattle.chip_sheet.specs.Streams.{Starts, sent, ends, destinations, taken, supplied, got, released, is_made}
+use Rattle.chip_sheet.specs.Streams.{Starts, sends, sent, ends, destinations, taken, supplied, got, released, is_made}
 use Rattle.chip_sheet.specs.Windows.{flight, unread, is_opened}
 use Rattle.chip_sheet.specs.Buffers.{sending, receiving}
 use Rattle.chip_sheet.specs.Interrupts.{interrupts_by, raised}
@@ -71,3 +74,20 @@ pub record LeavesOther (starts : Starts) (past : Past) (entry : Entry) (n life :
   pub supplied : supplied (entry ∷ past) n life ≡ supplied past n life
   pub destinations : destinations starts (entry ∷ past) n life ≡ destinations starts past n life
   pub released : released starts (entry ∷ past) n life ≡ released starts past n life
+
+-- What happens adds nothing to what is sent, takes nothing of it, and begins no life and no connection.
+abbrev pub keeps_sent : Cause → Status → Bool
+keeps_sent because.Reset status = false
+keeps_sent because.Send status = not (sends status)
+keeps_sent because.Linked status = false
+keeps_sent because.Accepted status = false
+keeps_sent (because.Took count) status = false
+keeps_sent why status = not (begins why status)
+
+-- An entry leaves the TX buffer of socket n and Sn_TX_WR as they are.
+pub record LeavesTx (past : Past) (entry : Entry) (n : ℕ) : Type 0 where
+  pub no_reset : is_reset (access_of past entry) ≡ false
+  pub sizes : resizes past tx_sizes (access_of past entry) ≡ false
+  pub buffer : writes_to (access_of past entry) (tx_buffer_of n) ≡ false
+  pub high : written_by (access_of past entry) (registers_of n) sn_tx_wr ≡ None
+  pub low : written_by (access_of past entry) (registers_of n) (sn_tx_wr + 1) ≡ None
