@@ -22,3 +22,4 @@ pub mod LivesLaws
 pub mod SendLaws
 pub mod DatagramLaws
 pub mod SendingSteps
+pub mod ReceivingSteps

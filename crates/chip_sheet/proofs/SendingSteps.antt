@@ -60,7 +60,7 @@ tx_same : (past : Past) (entry : Entry) (n at : ℕ) → LeavesTx past entry n �
 tx_same past entry n at h = ap (λ (size : ℕ). byte_in (entry ∷ past) n size at) (size_same past entry n h) ∙ byte_in_kept past entry n (tx_size past n) at h
 
 -- What keeps the sent bytes begins no life.
-not_begun : (b : Bool) → not b ≡ true → b ≡ false
+pub not_begun : (b : Bool) → not b ≡ true → b ≡ false
 not_begun true h = cc
 not_begun false h = refl
 
@@ -246,7 +246,7 @@ opened_sending starts past n b = record {
 not_buffer : (n : ℕ) → eqb (registers_of n) (tx_buffer_of n) ≡ false
 not_buffer n = ne_eqb (4 * n + 1) (4 * n + 2) (λ e. omega (arith, e))
 
-not_there : (n v at : ℕ) → eqb 0x01 at ≡ false → written_by (Write (registers_of n) 0x01 v) (registers_of n) at ≡ None
+pub not_there : (n v at : ℕ) → eqb 0x01 at ≡ false → written_by (Write (registers_of n) 0x01 v) (registers_of n) at ≡ None
 not_there n v at h = cond-false (eqb (registers_of n) (registers_of n) && eqb 0x01 at) (Some v) None (and_right (eqb (registers_of n) (registers_of n)) (eqb 0x01 at) h)
 
 pub command_leaves : (past : Past) (e : BusEvent) (a : BusAnswer) (n v : ℕ) → access past e ≡ Write (registers_of n) 0x01 v → LeavesTx past (Bus e a) n
@@ -389,16 +389,16 @@ unborn_ends starts (entry ∷ past) n l h =
     let grow = lives_grow (life past n) (cause past n entry) in
     ends_other starts past entry n l (λ (e : lives past n ≡ l). omega (arith, grow, h, e)) ∙ unborn_ends starts past n l (omega (arith, grow, h))
 
-none_flies : (b : Bool) (s t : ℕ) → s ≡ 0 → cond b (s - t) 0 ≡ 0
+pub none_flies : (b : Bool) (s t : ℕ) → s ≡ 0 → cond b (s - t) 0 ≡ 0
 none_flies true s t h = omega (arith, h)
 none_flies false s t h = refl
 
-pointer_begins : (why : Cause) (at : Status) (start : ℕ) (byte : Option ℕ) (before : ℕ) → begins why at ≡ true → pointer_after why at start byte before ≡ 0
+pub pointer_begins : (why : Cause) (at : Status) (start : ℕ) (byte : Option ℕ) (before : ℕ) → begins why at ≡ true → pointer_after why at start byte before ≡ 0
 pointer_begins because.OpenTcp at start byte before h = ap (λ (b : Bool). cond b 0 (unwrap_or byte before)) h
 pointer_begins because.OpenUdp at start byte before h = ap (λ (b : Bool). cond b 0 (unwrap_or byte before)) h
 pointer_begins why at start byte before h = cc
 
-opens : (why : Cause) (at : Status) (before : Bool) → begins why at ≡ true → opened_after why at before ≡ true
+pub opens : (why : Cause) (at : Status) (before : Bool) → begins why at ≡ true → opened_after why at before ≡ true
 opens because.OpenTcp at before h = ap (λ (b : Bool). b || before) h
 opens because.OpenUdp at before h = ap (λ (b : Bool). b || before) h
 opens why at before h = cc
@@ -457,17 +457,17 @@ fresh_ends starts (entry ∷ past) n h =
           ∙ unborn_ends starts past n (lives past n + 1) (omega arith)
     ]
 
-fresh_not_closed : (at : Status) → is_fresh at ≡ true → is_closed at ≡ false
+pub fresh_not_closed : (at : Status) → is_fresh at ≡ true → is_closed at ≡ false
 fresh_not_closed Closed h = cc
 fresh_not_closed at h = refl
 
 -- What makes a connection begins no life, leaves the socket opened, and sets the pointers.
-record Makes (what : LinkEntry) : Type 0 where
-  on : (at : Status) → begins (happening what) at ≡ false
-  opened : (at : Status) (before : Bool) → opened_after (happening what) at before ≡ before
-  sets : (at : Status) (start before : ℕ) → pointer_after (happening what) at start None before ≡ start
+pub record Makes (what : LinkEntry) : Type 0 where
+  pub on : (at : Status) → begins (happening what) at ≡ false
+  pub opened : (at : Status) (before : Bool) → opened_after (happening what) at before ≡ before
+  pub sets : (at : Status) (start before : ℕ) → pointer_after (happening what) at start None before ≡ start
 
-making : (what : LinkEntry) → makes what ≡ true → Makes what
+pub making : (what : LinkEntry) → makes what ≡ true → Makes what
 making Linked h = record { on = λ at. refl; opened = λ at before. refl; sets = λ at start before. refl }
 making (Accepted from) h = record { on = λ at. refl; opened = λ at before. refl; sets = λ at start before. refl }
 making what h = cc
