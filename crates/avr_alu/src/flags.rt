@@ -1,6 +1,7 @@
 //! The status register and the flags that an operation gives.
 ghost use Rattle.std.specs.Prelude.{◌≡◌, ℕ, ◌+◌, ◌-◌, ◌*◌, ◌/◌, ◌%◌, ◌<◌, ◌==◌};
-ghost use Rattle.avr_alu.specs.Sreg.{is_set, carry_of, status};
+ghost use Rattle.avr_sheet.specs.Bits.{is_set};
+ghost use Rattle.avr_alu.specs.Sreg.{carry_of, status};
 ghost use Rattle.avr_alu.specs.Groups.{sum, addition_flags, difference, subtraction_flags, logic_flags};
 ghost use Rattle.avr_alu.specs.Bits.{flags_by_bits, addition_by_bits, subtraction_by_bits};
 
@@ -15,6 +16,7 @@ pub struct Flags {
 }
 
 /// SREG with these flags: S is N xor V, and I and T are as in `sreg`.
+#[inline(always)]
 pub fn status(flags: Flags, sreg: u8) -> u8
     ensures { result ≡ status flags sreg }
 {
@@ -29,6 +31,7 @@ pub fn status(flags: Flags, sreg: u8) -> u8
 }
 
 /// C of a status register as a number, 0 or 1.
+#[inline(always)]
 pub fn carry_of(sreg: u8) -> u8
     ensures value { result ≡ carry_of sreg }
     ensures small { result < 2 }
@@ -37,6 +40,7 @@ pub fn carry_of(sreg: u8) -> u8
 }
 
 /// H of a status register.
+#[inline(always)]
 pub fn half_carry_of(sreg: u8) -> bool
     ensures { result ≡ is_set sreg 5 }
 {
@@ -44,6 +48,7 @@ pub fn half_carry_of(sreg: u8) -> bool
 }
 
 /// Z of a status register.
+#[inline(always)]
 pub fn zero_of(sreg: u8) -> bool
     ensures { result ≡ is_set sreg 1 }
 {
@@ -51,6 +56,7 @@ pub fn zero_of(sreg: u8) -> bool
 }
 
 /// The flags of the result `r`, with the carry out of each bit, and a byte whose bit 7 tells of an overflow.
+#[inline(always)]
 fn flags_of(r: u8, carries: u8, overflows: u8) -> Flags
     ensures { result ≡ flags_by_bits r carries overflows }
 {
@@ -64,6 +70,7 @@ fn flags_of(r: u8, carries: u8, overflows: u8) -> Flags
 }
 
 /// The flags of `r = a + b + carry`.
+#[inline(always)]
 pub fn addition_flags(a: u8, b: u8, carry: u8, r: u8) -> Flags
     requires carry { carry < 2 }
     requires sum { r ≡ sum a b carry }
@@ -73,6 +80,7 @@ pub fn addition_flags(a: u8, b: u8, carry: u8, r: u8) -> Flags
 }
 
 /// The flags of `r = a - b - carry`.
+#[inline(always)]
 pub fn subtraction_flags(a: u8, b: u8, carry: u8, r: u8) -> Flags
     requires carry { carry < 2 }
     requires difference { r ≡ difference a b carry }
@@ -82,6 +90,7 @@ pub fn subtraction_flags(a: u8, b: u8, carry: u8, r: u8) -> Flags
 }
 
 /// The flags of the result `r` of a logic operation.
+#[inline(always)]
 pub fn logic_flags(r: u8, sreg: u8) -> Flags
     ensures { result ≡ logic_flags r sreg }
 {

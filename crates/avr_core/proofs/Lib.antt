@@ -1,2 +1,6 @@
-pub mod BitTables
-pub mod Settling
+pub mod Trees
+pub mod Shaped
+pub mod Uses
+pub mod Plain
+pub mod Codes
+pub mod Sram

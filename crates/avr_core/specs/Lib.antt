@@ -1,4 +1,5 @@
 pub mod Ask
+pub mod Trees
 pub mod Calls
 pub mod Registers
 pub mod Steps
@@ -12,3 +13,8 @@ pub mod JumpRows
 pub mod BitRows
 pub mod Meaning
 pub mod Settled
+pub mod Within
+pub mod Cuts
+pub mod Ops
+pub mod Code
+pub mod Memory

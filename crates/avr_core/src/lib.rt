@@ -8,21 +8,23 @@
 mod access;
 mod bits;
 mod bus;
+mod code;
 mod cpu;
 mod effects;
+mod engine;
 mod jumps;
-mod logic;
-mod masks;
+mod memory;
 mod moves;
+mod op;
 mod pointers;
-mod products;
 mod stack;
 mod step;
-mod sums;
 mod went;
 
 pub use bus::{DataBus, DataEnd};
+pub use code::Code;
 pub use cpu::Core;
+pub use memory::Memory;
 pub use went::{AvrStop, Went};
 
 #[cfg(test)]

@@ -2,15 +2,13 @@
 ghost use Rattle.std.specs.Prelude.{◌≡◌, ◌<◌};
 
 use crate::bus::DataBus;
-use crate::cpu::{Core, X, Y, Z, above};
+use crate::cpu::{Core, Z, above};
 use crate::went::Went;
-use avr_table::Moves;
-use ihex::Image;
+use flash::Image;
 
 impl Core {
     ghost use Rattle.avr_core.specs.Ask.{Plays};
-    ghost use Rattle.avr_core.specs.MoveRows.{load_row, store_row, raised, flash_byte, moved_pair, lpm_then_rise_row, moves_row};
-    ghost use Rattle.avr_table.specs.WellFormed.{IsMove};
+    ghost use Rattle.avr_core.specs.MoveRows.{load_row, store_row, raised, flash_byte, moved_pair, lpm_then_rise_row};
 
     /// Loads Rd from a data address.
     pub(crate) fn load_into<D: DataBus>(
@@ -60,14 +58,14 @@ impl Core {
     }
 
     /// The flash byte at Z.
-    fn flash_byte(&self, flash: &Image) -> u8
+    pub(crate) fn flash_byte(&self, flash: &Image) -> u8
         ensures { result ≡ flash_byte flash.now self.now }
     {
         flash.byte(self.pair(Z) % 32768)
     }
 
     /// MOVW.
-    fn move_pair(&mut self, d: u8, v: u16) -> Went
+    pub(crate) fn move_pair(&mut self, d: u8, v: u16) -> Went
         requires { d < 31 }
         ensures { record { went = result; core = self.new } ≡ moved_pair d v self.old }
     {
@@ -76,7 +74,7 @@ impl Core {
     }
 
     /// LPM Rd, Z+.
-    fn load_flash_and_rise(&mut self, flash: &Image, d: u8) -> Went
+    pub(crate) fn load_flash_and_rise(&mut self, flash: &Image, d: u8) -> Went
         requires { d < 32 }
         ensures { record { went = result; core = self.new } ≡ lpm_then_rise_row flash.now d self.old }
     {
@@ -84,43 +82,5 @@ impl Core {
         self.set(d, v);
         self.raise(Z);
         self.on(3, 1)
-    }
-
-    pub(crate) fn moves<D: DataBus>(&mut self, flash: &Image, m: Moves, bus: &mut D) -> Went
-        requires { IsMove m }
-        ensures { Plays D.did bus.old (moves_row flash.now m self.old) (record { went = result; core = self.new }) bus.new }
-    {
-        match m {
-            Moves::Movw { d, r } => self.move_pair(d, self.pair(r)),
-            Moves::Mov { d, r } => self.put(d, self.reg(r), 1),
-            Moves::Ldi { d, k } => self.put(d, k, 1),
-            Moves::LddZ { d, q } => self.load_into(2, 1, d, above(self.pair(Z), u16::from(q)), bus),
-            Moves::LddY { d, q } => self.load_into(2, 1, d, above(self.pair(Y), u16::from(q)), bus),
-            Moves::StdZ { d, q } => self.store_from(
-                2,
-                1,
-                d,
-                above(self.pair(Z), u16::from(q)),
-                bus,
-            ),
-            Moves::StdY { d, q } => self.store_from(
-                2,
-                1,
-                d,
-                above(self.pair(Y), u16::from(q)),
-                bus,
-            ),
-            Moves::Lds { d, k } => self.load_into(2, 2, d, k, bus),
-            Moves::Sts { d, k } => self.store_from(2, 2, d, k, bus),
-            Moves::Ld { d, p } => self.ld(d, p, bus),
-            Moves::St { d, p } => self.st(d, p, bus),
-            Moves::LpmZ { d } => self.put(d, self.flash_byte(flash), 3),
-            Moves::LpmZInc { d } => self.load_flash_and_rise(flash, d),
-            Moves::Lpm => self.put(0, self.flash_byte(flash), 3),
-            Moves::Pop { d } => self.pop(d, bus),
-            Moves::Push { d } => self.push(d, bus),
-            Moves::In { d, a } => self.load_into(1, 1, d, 32 + u16::from(a), bus),
-            Moves::Out { d, a } => self.store_from(1, 1, d, 32 + u16::from(a), bus),
-        }
     }
 }

@@ -8,7 +8,7 @@ use Rattle.avr_table.specs.Decoded.{decoded, decoded_by}
 use Rattle.avr_table.specs.WellFormed.{AreRegisters, IsUpperWithByte, IsWidePair, AreMiddle}
 use Rattle.avr_table.specs.declared.instr.Instr.{Instr}
 use Rattle.avr_table.specs.declared.fault.DecodeFault.{DecodeFault}
-use Rattle.avr_table.proofs.Table.{table, same_at}
+use Rattle.avr_sheet.proofs.Table.{table, same_at}
 
 -- The word of one field is decoded so, at each of `m` values of the field.
 abbrev pub OneField : ℕ → (ℕ → ℕ) → (ℕ → ℕ → Result Instr DecodeFault) → Type 0

@@ -31,7 +31,7 @@ pub fn encode(instr: &Instr) -> (u16, Option<u16>)
     }
 }
 
-// The second word of a move: the data address.
+/// The second word of a move: the data address.
 fn move_next(instr: Moves) -> Option<u16>
     ensures { result ≡ move_next instr }
 {
@@ -41,7 +41,7 @@ fn move_next(instr: Moves) -> Option<u16>
     }
 }
 
-// The second word of a jump: the 16 lower bits of its target.
+/// The second word of a jump: the 16 lower bits of its target.
 fn jump_next(instr: Jumps) -> Option<u16>
     ensures { result ≡ jump_next instr }
 {
@@ -51,7 +51,7 @@ fn jump_next(instr: Jumps) -> Option<u16>
     }
 }
 
-// Sums, differences and comparisons.
+/// Sums, differences and comparisons.
 fn sum_word(instr: Sums) -> u16
     requires { IsSum instr }
     ensures { result ≡ sum_word instr }
@@ -74,7 +74,7 @@ fn sum_word(instr: Sums) -> u16
     }
 }
 
-// Products.
+/// Products.
 fn product_word(instr: Products) -> u16
     requires { IsProduct instr }
     ensures { result ≡ product_word instr }
@@ -89,7 +89,7 @@ fn product_word(instr: Products) -> u16
     }
 }
 
-// Logic and shifts.
+/// Logic and shifts.
 fn logic_word(instr: Logic) -> u16
     requires { IsLogic instr }
     ensures { result ≡ logic_word instr }
@@ -108,7 +108,7 @@ fn logic_word(instr: Logic) -> u16
     }
 }
 
-// Moves.
+/// Moves.
 fn move_word(instr: Moves) -> u16
     requires { IsMove instr }
     ensures { result ≡ move_word instr }
@@ -135,7 +135,7 @@ fn move_word(instr: Moves) -> u16
     }
 }
 
-// Jumps, calls, branches and skips.
+/// Jumps, calls, branches and skips.
 fn jump_word(instr: Jumps) -> u16
     requires { IsJump instr }
     ensures { result ≡ jump_word instr }
@@ -159,7 +159,7 @@ fn jump_word(instr: Jumps) -> u16
     }
 }
 
-// Bits and control.
+/// Bits and control.
 fn bits_word(instr: Bits) -> u16
     requires { IsBits instr }
     ensures { result ≡ bits_word instr }

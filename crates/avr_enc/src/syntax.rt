@@ -57,7 +57,7 @@ fn with_two(name: &'static str, first: Operand, second: Operand) -> Syntax
     }
 }
 
-// Sums, differences and comparisons.
+/// Sums, differences and comparisons.
 fn sum_syntax(instr: Sums) -> Syntax
     ensures is { syntax_text result.name.now result.operands ≡ sum_text instr }
     ensures short { length result.name.now ≤ 6 }
@@ -80,7 +80,7 @@ fn sum_syntax(instr: Sums) -> Syntax
     }
 }
 
-// Products.
+/// Products.
 fn product_syntax(instr: Products) -> Syntax
     ensures is { syntax_text result.name.now result.operands ≡ product_text instr }
     ensures short { length result.name.now ≤ 6 }
@@ -95,7 +95,7 @@ fn product_syntax(instr: Products) -> Syntax
     }
 }
 
-// Logic and shifts.
+/// Logic and shifts.
 fn logic_syntax(instr: Logic) -> Syntax
     ensures is { syntax_text result.name.now result.operands ≡ logic_text instr }
     ensures short { length result.name.now ≤ 6 }
@@ -114,7 +114,7 @@ fn logic_syntax(instr: Logic) -> Syntax
     }
 }
 
-// Moves.
+/// Moves.
 fn move_syntax(instr: Moves) -> Syntax
     ensures is { syntax_text result.name.now result.operands ≡ move_text instr }
     ensures short { length result.name.now ≤ 6 }
@@ -145,7 +145,7 @@ fn move_syntax(instr: Moves) -> Syntax
     }
 }
 
-// Jumps, calls, branches and skips.
+/// Jumps, calls, branches and skips.
 fn jump_syntax(instr: Jumps) -> Syntax
     ensures is { syntax_text result.name.now result.operands ≡ jump_text instr }
     ensures short { length result.name.now ≤ 6 }
@@ -169,7 +169,7 @@ fn jump_syntax(instr: Jumps) -> Syntax
     }
 }
 
-// Bits and control.
+/// Bits and control.
 fn bits_syntax(instr: Bits) -> Syntax
     ensures is { syntax_text result.name.now result.operands ≡ bits_text instr }
     ensures short { length result.name.now ≤ 6 }

@@ -4,7 +4,7 @@ use avr_table::{Bits, DecodeFault, Instr, decode, two_words};
 use std::test::Fail;
 use wz_base::{MemSink, WriteError};
 
-// A word of each row, the word that follows it, and the text.
+/// A word of each row, the word that follows it, and the text.
 const ROWS: [(u16, u16, &str); 86] = [
     (0x0000, 0xFFFF, "nop"),
     (0x01FC, 0xFFFF, "movw r30, r24"),
@@ -122,7 +122,7 @@ fn refuses_what_is_no_instruction(rt: HostRuntime) {
     assert_eq!(rt; decode(0x9598, 0), Ok(Instr::Bits(Bits::Break)));
 }
 
-// Of all words, 1,766 fit no row and 26 are undefined, counted from the opcodes.
+/// Of all words, 1,766 fit no row and 26 are undefined, counted from the opcodes.
 #[test]
 fn encodes_every_word_that_it_decodes(rt: HostRuntime) {
     let mut illegal = 0u32;

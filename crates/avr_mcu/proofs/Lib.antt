@@ -1,10 +1,9 @@
-pub mod Owners
-pub mod Through
-pub mod Trees
-pub mod DeviceCalls
 pub mod Steps
 pub mod Runs
 pub mod Timing
 pub mod Fuel
 pub mod Turns
 pub mod Stops
+pub mod Stretches
+pub mod Trails
+pub mod Hurries

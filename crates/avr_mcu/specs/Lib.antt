@@ -1,12 +1,9 @@
-pub mod Peer
-pub mod Registers
-pub mod Owners
-pub mod Devices
-pub mod Through
 pub mod State
 pub mod Step
 pub mod Answers
 pub mod Run
 pub mod Turn
+pub mod Hurry
+pub mod Stretch
 pub mod Settled
 pub mod Laws

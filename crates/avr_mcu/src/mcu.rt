@@ -1,31 +1,23 @@
 //! The microcontroller: its steps, one at a time.
-ghost use Rattle.std.specs.Prelude.{◌≡◌, ◌+◌, ◌<◌, ◌≤◌, ◌^◌, IfOk, slice_get};
+ghost use Rattle.std.specs.Prelude.{◌≡◌, ◌+◌, ◌<◌, ◌≤◌, ◌^◌, true, false, IfOk, slice_get};
 ghost use Rattle.avr_core.specs.Ask.{Plays};
 ghost use Rattle.avr_mcu.specs.Settled.{IsKept, IsTimed};
+ghost use Rattle.avr_mcu.specs.Stretch.{Goes};
+ghost use Rattle.avr_space.specs.Quiet.{IsQuietUntil};
 ghost use Rattle.avr_mcu.specs.Step.{counting, entered, entry, finished, gone, instruction, looking, owes, passing, request, sleeping, stepped};
 
-use crate::bits::is_set;
-use crate::devices::Devices;
-use crate::peer::BusPeer;
-use crate::run_core::{run_entry, run_instruction};
+use crate::stretch::stretch;
 use crate::trail::Trail;
 use crate::went::McuWent;
-use avr_core::{Core, Went};
-use ihex::{Image, NoMemory};
-use std::alloc::Global;
+use avr_core::{Code, Core, Went};
+use avr_sheet::is_set;
+use avr_space::{BusPeer, Devices, run_entry, run_instruction};
+use flash::Image;
+use std::alloc::{AllocError, Global};
 use std::marker::Model;
 
 /// Data address of SMCR, whose bit 0 enables sleeping.
 const SMCR: u16 = 0x53;
-
-/// The opcode of SEI, which is BSET 7.
-const SEI: u16 = 0x9478;
-
-/// The opcode of RETI.
-const RETI: u16 = 0x9518;
-
-/// Words of flash.
-const WORDS: u16 = 0x4000;
 
 /// INTn is looked at after so many instructions and cycles asleep.
 const LOOK_PERIOD: u8 = 64;
@@ -33,7 +25,7 @@ const LOOK_PERIOD: u8 = 64;
 /// An ATmega328P with its firmware.
 #[derive(Drop)]
 pub struct Mcu {
-    image: Image,
+    code: Code,
     core: Core,
     devices: Devices,
     asleep: bool,
@@ -48,7 +40,7 @@ impl Model for Mcu {
 
     ghost Value = { McuState };
 
-    ghost view = { λ m. record { flash = m.image; core = m.core; devices = m.devices; asleep = m.asleep; owed = m.owed; counted = m.counted; trail = m.trail } };
+    ghost view = { λ m. record { flash = m.code; core = m.core; devices = m.devices; asleep = m.asleep; owed = m.owed; counted = m.counted; trail = m.trail } };
 
     ghost invariant = { λ m. m.counted < 64 };
 }
@@ -57,13 +49,13 @@ impl Mcu {
     ghost use Rattle.avr_mcu.specs.State.{printed, reset_state, taken};
 
     /// The part after reset, with this flash. The error says that no memory was left.
-    pub fn new(alloc: Global, image: Image) -> Result<Mcu, NoMemory>
+    pub fn new(alloc: Global, image: Image) -> Result<Mcu, AllocError>
         ensures { IfOk result (λ mcu. mcu ≡ reset_state image) }
     {
         Ok(Mcu {
-            image,
+            code: Code::new(alloc, image)?,
             core: Core::new(),
-            devices: Devices::new(alloc)?,
+            devices: Devices::new(),
             asleep: false,
             owed: false,
             counted: 0,
@@ -79,6 +71,7 @@ impl Mcu {
     /// but that the trail has the instruction. `cycles()` is below 2^63 when a step is begun.
     pub fn step<B: BusPeer>(&mut self, peer: &mut B) -> McuWent
         requires { self.old.devices.cycles < 2 ^ 63 }
+        ensures rises { self.new.devices.cycles ≤ self.old.devices.cycles + 4 }
         ensures cycles { IsTimed result self.old.devices.cycles self.new.devices.cycles }
         ensures kept { IsKept result self.old self.new }
         ensures plays { Plays B.did peer.old (stepped self.old) (gone result self.new) peer.new }
@@ -100,6 +93,87 @@ impl Mcu {
                     self.execute(peer)
                 }
             }
+        }
+    }
+
+    /// Makes steps that ask nothing of the bus, while they begin below `limit`, a count of cycles: none, or some up to the next look at
+    /// INTn, the next event of a device, or the next instruction that reaches more than the core and SRAM, which are left to `step`.
+    ///
+    /// Each is what `step` would have done: it ran an instruction or slept a cycle. Of them only the last may have printed a byte, which
+    /// `printed` then gives; `printed` is to be asked before, too. Where there were some, at most three cycles went by past `limit`.
+    pub fn hurry(&mut self, limit: u64)
+        requires { limit ≤ 2 ^ 63 }
+        ensures goes { Goes limit self.old self.new }
+        ensures from { self.old.devices.cycles ≤ self.new.devices.cycles }
+        ensures to { self.old.devices.cycles < limit → self.new.devices.cycles ≤ limit + 3 }
+    {
+        if self.devices.cycles < limit {
+            if self.asleep {
+                self.doze(limit);
+            } else {
+                self.rush(limit);
+            }
+        }
+    }
+
+    /// The count of cycles before which no interrupt is entered. Where I is clear that is none, since an instruction may set it.
+    fn calm_until(&self) -> u64
+        ensures { IsQuietUntil self.now.devices result }
+    {
+        if is_set(self.core.sreg(), 7) {
+            self.devices.quiet_until()
+        } else {
+            0
+        }
+    }
+
+    /// Plain instructions, up to the next look, the limit or the next event of a device. The devices pass their time once, at the end.
+    fn rush(&mut self, limit: u64)
+        requires limit { limit ≤ 2 ^ 63 }
+        requires below { self.old.devices.cycles < limit }
+        requires awake { self.old.asleep ≡ false }
+        ensures goes { Goes limit self.old self.new }
+        ensures from { self.old.devices.cycles ≤ self.new.devices.cycles }
+        ensures to { self.new.devices.cycles ≤ limit + 3 }
+    {
+        self.devices.fits();
+        let now = self.devices.cycles;
+        let most = cycles_ahead(now, limit, self.devices.printed_at());
+        let calm = cycles_ahead(now, u64::MAX, self.calm_until());
+        let mut addresses = [0u16; 64];
+        let (ran, spent) = stretch(
+            &self.code,
+            &mut self.core,
+            &mut self.devices.memory,
+            LOOK_PERIOD - 1 - self.counted,
+            most,
+            calm,
+            &mut addresses,
+        );
+        if ran > 0 {
+            self.trail.note_all(&addresses[..ran as usize]);
+            self.owed = false;
+            self.counted += ran;
+            self.devices.pass(spent);
+        }
+    }
+
+    /// Cycles asleep, up to the next look, the limit or the next event of a device.
+    fn doze(&mut self, limit: u64)
+        requires limit { limit ≤ 2 ^ 63 }
+        requires below { self.old.devices.cycles < limit }
+        requires asleep { self.old.asleep ≡ true }
+        ensures goes { Goes limit self.old self.new }
+        ensures from { self.old.devices.cycles ≤ self.new.devices.cycles }
+        ensures to { self.new.devices.cycles ≤ limit + 3 }
+    {
+        self.devices.fits();
+        let now = self.devices.cycles;
+        let until = self.calm_until().min(self.devices.printed_at());
+        let slept = least_of(LOOK_PERIOD - 1 - self.counted, cycles_ahead(now, limit, until));
+        if slept > 0 {
+            self.counted += slept;
+            self.devices.pass(u64::from(slept));
         }
     }
 
@@ -149,7 +223,7 @@ impl Mcu {
     {
         let owed = self.owes();
         self.trail.note(self.core.pc());
-        let went = run_instruction(&mut self.core, &self.image, &mut self.devices, peer);
+        let went = run_instruction(&mut self.core, &self.code, &mut self.devices, peer);
         self.finish(owed, went, peer)
     }
 
@@ -158,8 +232,7 @@ impl Mcu {
     fn owes(&self) -> bool
         ensures { result ≡ owes self.now.flash self.now.core }
     {
-        let word = self.image.word(self.core.pc() % WORDS);
-        word == SEI || word == RETI
+        self.core.owes(&self.code)
     }
 
     /// What follows once the core has gone so.
@@ -226,11 +299,11 @@ impl Mcu {
         requires { self.old.devices.cycles < 2 ^ 63 }
         ensures { gone result self.new ≡ passing went cycles self.old }
     {
-        self.devices.pass(cycles);
+        self.devices.pass(u64::from(cycles));
         went
     }
 
-    /// Takes the byte that entered the USART's shifter in the last step. `None` exactly where none did.
+    /// Takes the byte that entered the USART's shifter in the last step, or in the last `hurry`. `None` exactly where none did.
     pub fn printed(&mut self) -> Option<u8>
         ensures value { result ≡ printed self.old }
         ensures state { self.new ≡ taken self.old }
@@ -251,5 +324,26 @@ impl Mcu {
         ensures { result ≡ slice_get self.now.trail i }
     {
         self.trail.get(i)
+    }
+}
+
+/// The cycles from now on that are left to a limit, and to a count that may be past.
+fn cycles_ahead(now: u64, limit: u64, until: u64) -> u64
+    requires { now ≤ limit }
+    ensures limit { now + result ≤ limit }
+    ensures until { 0 < result → now + result ≤ until }
+{
+    limit.min(until).saturating_sub(now)
+}
+
+/// The lower of two numbers, of which one is a byte.
+fn least_of(room: u8, cycles: u64) -> u8
+    ensures room { result ≤ room }
+    ensures cycles { result ≤ cycles }
+{
+    if cycles < u64::from(room) {
+        cycles as u8
+    } else {
+        room
     }
 }

@@ -1,6 +1,7 @@
 //! The last instructions that were started.
 ghost use Rattle.std.specs.Prelude.{◌≡◌, [], IfOk, slice_get};
 ghost use Rattle.avr_mcu.specs.State.{noted};
+ghost use Rattle.avr_mcu.specs.Stretch.{noted_all};
 
 use circular_buffer::HeapCircularBuffer;
 use std::alloc::{AllocError, Global};
@@ -41,6 +42,23 @@ impl Trail {
         ensures { self.new ≡ noted self.old address }
     {
         self.addresses.push_back(address);
+    }
+
+    /// These instructions are started, in their order. Takes no memory, and pushes no more than are kept.
+    pub fn note_all(&mut self, addresses: &[u16])
+        ensures { self.new ≡ noted_all self.old addresses.now }
+    {
+        let from = addresses.len().saturating_sub(LENGTH);
+        self.note_each(&addresses[from..]);
+    }
+
+    /// Each of these instructions is started.
+    fn note_each(&mut self, addresses: &[u16])
+        ensures { self.new ≡ noted_all self.old addresses.now }
+    {
+        for at in addresses {
+            self.note(*at);
+        }
     }
 
     /// The address with this index, from the oldest; `None` exactly past the last one.

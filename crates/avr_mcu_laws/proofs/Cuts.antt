@@ -1,22 +1,8 @@
--- Trees in which a call that the world below cuts off ends all at once, and nothing else does.
+-- One tree and then another, each of which a cut ends all at once.
 use Rattle.std.proofs.Common.{◌≡◌, Bool, true, false, if◌then◌else◌}
 use Rattle.avr_core.specs.Ask.{Ask, Give, Call}
-use Rattle.avr_mcu.specs.Through.{followed}
-
--- The tree ends here, with a result that was cut off.
-abbrev pub EndsCut : {C : Type 0} {A : C → Type 0} {R : Type 0} → (R → Bool) → Ask C A R → Type 0
-EndsCut cut (Give r) = cut r ≡ true
-EndsCut cut (Call c go) = ⊥
-
--- By whether an answer cuts off.
-abbrev pub by_cut : Bool → Type 0 → Type 0 → Type 0
-by_cut true ends goes = ends
-by_cut false ends goes = goes
-
--- A result is cut off exactly behind an answer that cuts off, and no call follows such an answer.
-abbrev pub CutsOnly : {C : Type 0} {A : C → Type 0} {R : Type 0} → ((c : C) → A c → Bool) → (R → Bool) → Ask C A R → Type 0
-CutsOnly over cut (Give r) = cut r ≡ false
-CutsOnly {A = A} over cut (Call c go) = (a : A c) → by_cut (over c a) (EndsCut cut (go a)) (CutsOnly over cut (go a))
+use Rattle.avr_core.specs.Cuts.{EndsCut, by_cut, CutsOnly}
+use Rattle.avr_space.specs.Through.{followed}
 
 -- What follows a result, by whether it was cut off.
 abbrev pub GoesOn : {C : Type 0} {A : C → Type 0} {R S : Type 0} → ((c : C) → A c → Bool) → (R → Bool) → (S → Bool) → (R → Ask C A S) → Type 0

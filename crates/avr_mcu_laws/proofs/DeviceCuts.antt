@@ -2,36 +2,31 @@
 use Rattle.std.proofs.Common.{◌≡◌, ℕ, ◌+◌, ◌^◌, ◌==◌, Bool, true, false, ◌&&◌, Option, Some, None, Result, Ok, Err, is_err, if◌then◌else◌, nat_le, nat_lt, refl, slice_index}
 use Rattle.avr_core.specs.Ask.{Give, Call}
 use Rattle.avr_core.specs.Calls.{DataCall, Read, Write, WriteBit, AnswerTo as DataAnswer}
-use Rattle.avr_core.specs.Registers.{with_bit}
+use Rattle.avr_sheet.specs.Bits.{with_bit}
 use Rattle.avr_core.specs.Steps.{Asked, Stepped}
 use Rattle.avr_core.specs.declared.bus.DataEnd.{DataEnd}
 use Rattle.avr_mcu.specs.Answers.{over}
-use Rattle.avr_mcu.specs.Devices.{Handled, handled, Done, or_stop, or_over, with_int, with_byte, look_row, drive_row, drive_by, same, serial_row, send_row, spdr_row, timers_row, stored_by, write_io_row, write_row, write_bit_io_row, write_bit_row, device}
-use Rattle.avr_mcu.specs.Owners.{owner_of}
-use Rattle.avr_mcu.specs.Peer.{AnswerTo, OfBus}
-use Rattle.avr_mcu.specs.Registers.{stop_of_stored}
-use Rattle.avr_mcu.specs.Through.{through}
-use Rattle.avr_mcu.specs.declared.call.BusCall.{BusCall}
-use Rattle.avr_mcu.specs.declared.call.BusCall.TheVariants.{Select, Byte, Look}
-use Rattle.avr_mcu.specs.declared.call.BusIsOver.{BusIsOver}
-use Rattle.avr_mcu.specs.declared.devices.Devices.{Devices}
-use Rattle.avr_mcu.specs.declared.owner.Owner.{Owner}
-use Rattle.avr_mcu.specs.declared.owner.Owner.TheVariants as owners
-use Rattle.avr_mcu_laws.proofs.CoreCuts.{is_data_over, data_over, step_over}
-use Rattle.avr_mcu_laws.proofs.Cuts.{EndsCut, CutsOnly, by_cut, either, cuts-followed}
+use Rattle.avr_space.specs.Devices.{Handled, handled, Done, or_stop, or_over, with_int, with_byte, look_row, drive_row, drive_by, same, serial_row, send_row, spdr_row, timers_row, stored_by, write_io_row, write_row, write_bit_io_row, write_bit_row, device}
+use Rattle.avr_space.specs.Owners.{owner_of}
+use Rattle.avr_space.specs.Peer.{AnswerTo, OfBus}
+use Rattle.avr_space.specs.Registers.{stop_of_stored}
+use Rattle.avr_space.specs.Through.{through}
+use Rattle.board_bus.specs.declared.event.BusEvent.{BusEvent}
+use Rattle.board_bus.specs.declared.event.BusEvent.TheVariants.{Select, Byte, Look}
+use Rattle.avr_space.specs.declared.bus.BusIsOver.{BusIsOver}
+use Rattle.avr_space.specs.declared.devices.Devices.{Devices}
+use Rattle.avr_space.specs.declared.owner.Owner.{Owner}
+use Rattle.avr_space.specs.declared.owner.Owner.TheVariants as owners
+use Rattle.avr_core.specs.Cuts.{EndsCut, by_cut, CutsOnly, is_data_over, data_over, step_over}
+use Rattle.avr_mcu_laws.specs.Over.{bus_over}
+use Rattle.avr_mcu_laws.proofs.Cuts.{either, cuts-followed}
 use Rattle.avr_ports.specs.Levels.{is_select_low}
 use Rattle.avr_ports.specs.Ports.{PortsState}
 use Rattle.avr_ports.specs.Writes.{written as ports_written, written_bit as ports_written_bit}
 use Rattle.avr_serial.specs.Serial.{exchanged, write_answer}
 use Rattle.avr_serial.specs.Spi.{start_answer}
-use Rattle.avr_table.specs.declared.stop.DeviceStop.{DeviceStop}
+use Rattle.avr_sheet.specs.declared.stop.DeviceStop.{DeviceStop}
 use Rattle.avr_timer.specs.Writes.{write_outcome, answer_of}
-
--- An answer of the bus that says that it is over.
-abbrev pub bus_over : (c : BusCall) → AnswerTo c → Bool
-bus_over (Select low) a = is_err a
-bus_over (Byte mosi) a = is_err a
-bus_over Look a = is_err a
 
 abbrev answer_over : {A : Type 0} → Handled (Result A DataEnd) → Bool
 answer_over h = is_data_over h.answer

@@ -3,13 +3,13 @@ use Rattle.std.proofs.Common.{◌≡◌, ℕ, zero, suc, ◌+◌, ◌-◌, ◌�
 use Rattle.std.proofs.lemmas.Bool.Decides.{nat_tests}
 use Rattle.avr_core.specs.Ask.{Give, Call}
 use Rattle.avr_mcu.specs.Answers.{reads, over, led}
-use Rattle.avr_mcu.specs.Peer.{OfBus}
+use Rattle.avr_space.specs.Peer.{OfBus}
 use Rattle.avr_mcu.specs.Run.{Outcome, end_of, ended, run}
 use Rattle.avr_mcu.specs.Settled.{Times}
 use Rattle.avr_mcu.specs.State.{McuState, taken}
 use Rattle.avr_mcu.specs.Step.{stepped}
-use Rattle.avr_mcu.specs.declared.answer.BusAnswer.{BusAnswer}
-use Rattle.avr_mcu.specs.declared.call.BusCall.{BusCall}
+use Rattle.board_bus.specs.declared.event.BusAnswer.{BusAnswer}
+use Rattle.board_bus.specs.declared.event.BusEvent.{BusEvent}
 use Rattle.avr_mcu.specs.declared.run.RunEnd.{RunEnd}
 use Rattle.avr_mcu.specs.declared.run.RunEnd.TheVariants as ends
 use Rattle.avr_mcu.specs.declared.went.McuWent.{McuWent}
@@ -37,7 +37,7 @@ reached-by : (b : Bool) (limit cycles : ℕ) (end : RunEnd) → nat_le limit cyc
 reached-by true limit cycles end e is = grind (arith, nat_tests)
 reached-by false limit cycles end e is = absurd (cc)
 
-reached : (wants : Option BusCall) (went : McuWent) (limit cycles : ℕ) → (went ≡ BusOver → IsSome wants)
+reached : (wants : Option BusEvent) (went : McuWent) (limit cycles : ℕ) → (went ≡ BusOver → IsSome wants)
     → end_of wants went limit cycles ≡ Some ends.CycleLimit → limit ≤ cycles
 reached (Some call) went limit cycles wanted is = absurd (cc)
 reached None Ran limit cycles wanted is = reached-by _ limit cycles ends.CycleLimit refl is
@@ -48,11 +48,11 @@ reached None Sleep limit cycles wanted is = absurd (cc)
 reached None BusOver limit cycles wanted is = let some = wanted refl in absurd (cc)
 reached None (Stop stop) limit cycles wanted is = absurd (cc)
 
-no-want : (b : Bool) (call : BusCall) → (if b then Some ends.CycleLimit else None) ≡ Some (ends.Wants call) → ⊥
+no-want : (b : Bool) (call : BusEvent) → (if b then Some ends.CycleLimit else None) ≡ Some (ends.Wants call) → ⊥
 no-want true call is = absurd (cc)
 no-want false call is = absurd (cc)
 
-wanted-by : (wants : Option BusCall) (went : McuWent) (limit cycles : ℕ) (call : BusCall)
+wanted-by : (wants : Option BusEvent) (went : McuWent) (limit cycles : ℕ) (call : BusEvent)
     → end_of wants went limit cycles ≡ Some (ends.Wants call) → IsSome wants
 wanted-by (Some wanted) went limit cycles call is = refl
 wanted-by None Ran limit cycles call is = absurd (no-want (nat_le limit cycles) call is)
@@ -66,7 +66,7 @@ wanted-by None (Stop stop) limit cycles call is = absurd (cc)
 -- The outcome of a run on these answers has the cause of its end.
 abbrev HasCause : ℕ → List BusAnswer → Outcome → Type 0
 HasCause limit xs o =
-    (o.end ≡ ends.CycleLimit → limit ≤ o.cycles) × ((call : BusCall) → o.end ≡ ends.Wants call → length o.asked ≡ length xs)
+    (o.end ≡ ends.CycleLimit → limit ≤ o.cycles) × ((call : BusEvent) → o.end ≡ ends.Wants call → length o.asked ≡ length xs)
 
 -- How the first step ends the run.
 abbrev first_end : ℕ → McuState → List BusAnswer → Option RunEnd

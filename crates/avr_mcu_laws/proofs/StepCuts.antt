@@ -1,40 +1,29 @@
 -- A step of the microcontroller ends with the bus over exactly where a call on the bus was answered so.
 use Rattle.std.proofs.Common.{◌≡◌, ◌↔◌, ℕ, ◌+◌, ◌%◌, ◌==◌, Bool, true, false, List, [], ◌∷◌, Option, Some, None, is_some, IsSome, Result, Ok, Err, is_err, refl, sym, ap, ◌∙◌, slice_index}
-use Rattle.avr_alu.specs.Sreg.{is_set}
+use Rattle.avr_sheet.specs.Bits.{is_set}
 use Rattle.avr_core.specs.Ask.{Give, Call}
 use Rattle.avr_core.specs.Meaning.{meaning, interrupted}
 use Rattle.avr_core.specs.Steps.{Stepped}
 use Rattle.avr_core.specs.declared.went.Went.{Went}
 use Rattle.avr_core.specs.declared.went.Went.TheVariants as wents
 use Rattle.avr_mcu.specs.Answers.{reads, over, led}
-use Rattle.avr_mcu.specs.Devices.{Handled}
-use Rattle.avr_mcu.specs.Peer.{OfBus}
+use Rattle.avr_space.specs.Devices.{Handled}
+use Rattle.avr_space.specs.Peer.{OfBus}
 use Rattle.avr_mcu.specs.State.{McuState, noted}
 use Rattle.avr_mcu.specs.Step.{Gone, passing, looked, looking, counting, sleeping, finished, owes, instruction, entered, entry, request, step_by, stepped}
-use Rattle.avr_mcu.specs.Through.{through}
-use Rattle.avr_mcu.specs.declared.answer.BusAnswer.{BusAnswer}
-use Rattle.avr_mcu.specs.declared.answer.BusAnswer.TheVariants.{Done as Told, Out, Level}
-use Rattle.avr_mcu.specs.declared.call.BusCall.{BusCall}
-use Rattle.avr_mcu.specs.declared.call.BusCall.TheVariants.{Select, Byte, Look}
-use Rattle.avr_mcu.specs.declared.call.BusIsOver.{BusIsOver}
+use Rattle.avr_space.specs.Through.{through}
+use Rattle.board_bus.specs.declared.event.BusAnswer.{BusAnswer}
+use Rattle.board_bus.specs.declared.event.BusAnswer.TheVariants.{Done as Told, Out, Level}
+use Rattle.board_bus.specs.declared.event.BusEvent.{BusEvent}
+use Rattle.board_bus.specs.declared.event.BusEvent.TheVariants.{Select, Byte, Look}
+use Rattle.avr_space.specs.declared.bus.BusIsOver.{BusIsOver}
 use Rattle.avr_mcu.specs.declared.went.McuWent.{McuWent}
 use Rattle.avr_mcu.specs.declared.went.McuWent.TheVariants.{Ran, Asleep, Served, Break, Sleep, BusOver, Stop}
-use Rattle.avr_mcu_laws.proofs.CoreCuts.{went_over, meaning-cuts, interrupted-cuts}
-use Rattle.avr_mcu_laws.proofs.Cuts.{EndsCut, CutsOnly, by_cut, either, cuts-followed}
-use Rattle.avr_mcu_laws.proofs.DeviceCuts.{bus_over, core_over, through-cuts}
-
--- A step of the microcontroller that ended with the bus over.
-abbrev mcu_over : McuWent → Bool
-mcu_over Ran = false
-mcu_over Asleep = false
-mcu_over Served = false
-mcu_over Break = false
-mcu_over Sleep = false
-mcu_over BusOver = true
-mcu_over (Stop stop) = false
-
-abbrev gone_over : Gone → Bool
-gone_over g = mcu_over g.went
+use Rattle.avr_core.specs.Cuts.{EndsCut, by_cut, CutsOnly, went_over}
+use Rattle.avr_core.proofs.Uses.{meaning-cuts, interrupted-cuts}
+use Rattle.avr_mcu_laws.specs.Over.{bus_over, mcu_over, gone_over}
+use Rattle.avr_mcu_laws.proofs.Cuts.{either, cuts-followed}
+use Rattle.avr_mcu_laws.proofs.DeviceCuts.{core_over, through-cuts}
 
 abbrev GoneCuts : OfBus Gone → Type 0
 GoneCuts tree = CutsOnly bus_over gone_over tree
@@ -92,17 +81,17 @@ step-by-cuts : (request : Option ℕ) (s : McuState) → GoneCuts (step_by reque
 step-by-cuts (Some vector) s = entry-cuts vector s
 step-by-cuts None s = either bus_over gone_over s.asleep (counting Asleep 1 s) (instruction s) (counting-cuts Asleep 1 s refl) (instruction-cuts s)
 
-step-cuts : (s : McuState) → GoneCuts (stepped s)
+pub step-cuts : (s : McuState) → GoneCuts (stepped s)
 unfolding stepped
 step-cuts s = step-by-cuts (request s) s
 
 -- On a list of answers.
-ends-on-none : (c : BusCall) (tree : OfBus Gone) → by_cut (bus_over c (over c)) (EndsCut gone_over tree) (GoneCuts tree) → EndsCut gone_over tree
+ends-on-none : (c : BusEvent) (tree : OfBus Gone) → by_cut (bus_over c (over c)) (EndsCut gone_over tree) (GoneCuts tree) → EndsCut gone_over tree
 ends-on-none (Select low) tree it = it
 ends-on-none (Byte mosi) tree it = it
 ends-on-none Look tree it = it
 
-goes-on-told : (c : BusCall) (x : BusAnswer) (tree : OfBus Gone) → by_cut (bus_over c (reads c x)) (EndsCut gone_over tree) (GoneCuts tree) → GoneCuts tree
+goes-on-told : (c : BusEvent) (x : BusAnswer) (tree : OfBus Gone) → by_cut (bus_over c (reads c x)) (EndsCut gone_over tree) (GoneCuts tree) → GoneCuts tree
 goes-on-told (Select low) x tree it = it
 goes-on-told (Byte mosi) Told tree it = it
 goes-on-told (Byte mosi) (Out v) tree it = it

@@ -1,7 +1,7 @@
 -- The vectors of the devices, and which is pending.
 use Rattle.std.proofs.Common.{◌≡◌, ◌≤◌, ℕ, true, inl, inr, List, [], ◌∷◌, Option, Some, None, find, refl, sym, ap, subst, ◌∙◌, arith}
-use Rattle.avr_mcu.specs.Devices.{first_of, pending}
-use Rattle.avr_mcu.specs.declared.devices.Devices.{Devices}
+use Rattle.avr_space.specs.Devices.{first_of, pending}
+use Rattle.avr_space.specs.declared.devices.Devices.{Devices}
 use Rattle.avr_mcu_laws.specs.Lowest.{is_serial_requested, Requests, IsLowest}
 use Rattle.avr_mcu_laws.proofs.Found.{Among, RisesFrom, UpTo, at-least, at-most, finds, found, among-next}
 use Rattle.avr_ports.specs.Ports.{PortsState}

@@ -2,8 +2,8 @@
 use Rattle.std.specs.Prelude.{◌≡◌, ◌≤◌, ℕ, List, length}
 use Rattle.avr_mcu.specs.Run.{run}
 use Rattle.avr_mcu.specs.State.{McuState}
-use Rattle.avr_mcu.specs.declared.answer.BusAnswer.{BusAnswer}
-use Rattle.avr_mcu.specs.declared.call.BusCall.{BusCall}
+use Rattle.board_bus.specs.declared.event.BusAnswer.{BusAnswer}
+use Rattle.board_bus.specs.declared.event.BusEvent.{BusEvent}
 use Rattle.avr_mcu.specs.declared.run.RunEnd.TheVariants.{CycleLimit, Wants}
 
 -- A run that ends by the limit of cycles has come to it.
@@ -13,5 +13,5 @@ LimitIsReached = (limit : ℕ) (s : McuState) (xs : List BusAnswer) →
 
 -- A run that ends by a call for which no answer is left has used every answer, each for one call.
 abbrev pub AnswersAreUsed : Type 0
-AnswersAreUsed = (limit : ℕ) (s : McuState) (xs : List BusAnswer) (call : BusCall) →
+AnswersAreUsed = (limit : ℕ) (s : McuState) (xs : List BusAnswer) (call : BusEvent) →
     (run limit s xs).end ≡ Wants call → length (run limit s xs).asked ≡ length xs

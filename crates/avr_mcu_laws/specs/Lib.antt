@@ -1,3 +1,4 @@
+pub mod Over
 pub mod Ends
 pub mod Lowest
 pub mod Wanted

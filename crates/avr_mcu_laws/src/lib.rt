@@ -3,7 +3,13 @@
 
 ghost use Rattle.avr_mcu_laws.specs.Ends.{AnswersAreUsed, LimitIsReached};
 ghost use Rattle.avr_mcu_laws.specs.Lowest.{LowestVectorFirst};
+ghost use Rattle.avr_mcu_laws.specs.Over.{OverOnlyAsSaid};
 ghost use Rattle.avr_mcu_laws.specs.Wanted.{OverOnlyWhereWanted};
+
+/// Over any peer a step says that the bus is over exactly behind an answer of the peer that says so, after which it asks nothing more.
+pub fn over_only_as_said()
+    ensures { OverOnlyAsSaid }
+{}
 
 /// On any list of answers a step says that the bus is over exactly where it wanted an answer after the last.
 pub fn over_only_where_wanted()

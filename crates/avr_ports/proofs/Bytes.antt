@@ -1,18 +1,19 @@
 -- A byte by its bits.
 use Rattle.std.proofs.Common.{◌≡◌, ℕ, zero, suc, ◌+◌, ◌-◌, ◌*◌, ◌/◌, ◌%◌, ◌^◌, ◌<◌, Bool, true, false, min, refl, ap, arith, ◌∙◌}
-use Rattle.std.specs.Prelude.{◌==◌, not, ◌&&◌, bit_and, bit_or, bit_xor}
+use Rattle.std.specs.Prelude.{◌==◌, not, ◌&&◌, bit_and, bit_xor, if◌then◌else◌}
 use Rattle.std.specs.Int.{bit_at}
 use Rattle.std.proofs.lemmas.Nat.Bits.{bit_at_and, bit_at_xor, bit_at-lt}
-use Rattle.avr_ports.specs.Bits.{bit, weighed, byte, with_bit, any_bit, differ}
-use Rattle.avr_ports.proofs.Tables.{values_from, same_at}
+use Rattle.avr_sheet.specs.Bits.{is_set, weighed, with_bit, differ}
+use Rattle.avr_sheet.proofs.Table.{table, same_at}
+use Rattle.avr_ports.specs.Bits.{byte, any_bit}
 
-byte_values : values_from {A = ℕ} (λ u n. byte (bit n)) 0 0 256 ≡ values_from {A = ℕ} (λ u n. n) 0 0 256
+byte_values : table {A = ℕ} (λ u n. byte (is_set n)) 0 0 256 ≡ table {A = ℕ} (λ u n. n) 0 0 256
 unfolding byte
 byte_values = refl
 
 -- a byte is made of its bits
-pub byte-bit : (n : ℕ) → n < 256 → byte (bit n) ≡ n
-byte-bit n small = same_at {A = ℕ} (λ u n. byte (bit n)) (λ u n. n) 0 0 256 byte_values n (omega arith) (omega arith)
+pub byte-bit : (n : ℕ) → n < 256 → byte (is_set n) ≡ n
+byte-bit n small = same_at {A = ℕ} (λ u n. byte (is_set n)) (λ u n. n) 0 0 256 byte_values n (omega arith) (omega arith)
 
 pub byte-same : (f g : ℕ → Bool) → f 0 ≡ g 0 → f 1 ≡ g 1 → f 2 ≡ g 2 → f 3 ≡ g 3 → f 4 ≡ g 4 → f 5 ≡ g 5 → f 6 ≡ g 6 → f 7 ≡ g 7
     → byte f ≡ byte g
@@ -24,35 +25,23 @@ pub any_bit-same : (f g : ℕ → Bool) → f 0 ≡ g 0 → f 1 ≡ g 1 → f 2 
 unfolding any_bit
 any_bit-same f g h0 h1 h2 h3 h4 h5 h6 h7 = rw (h0, h1, h2, h3, h4, h5, h6, h7) refl
 
-set_values : values_from {A = ℕ} (λ u w. bit_or (w % 256) (2 ^ (w / 256))) 0 0 2048 ≡ values_from {A = ℕ} (λ u w. with_bit (w % 256) (w / 256) true) 0 0 2048
+set_values : (b : Bool) → table {A = ℕ} (λ u n. byte (λ i. if i == 2 then b else is_set n i)) 0 0 256 ≡ table {A = ℕ} (λ u n. with_bit n 2 b) 0 0 256
 unfolding byte
-set_values = refl
+set_values true = refl
+set_values false = refl
 
-clear_values : values_from {A = ℕ} (λ u w. bit_and (w % 256) (255 - 2 ^ (w / 256))) 0 0 2048 ≡ values_from {A = ℕ} (λ u w. with_bit (w % 256) (w / 256) false) 0 0 2048
-unfolding byte
-clear_values = refl
+-- a byte with bit 2 as given, by its bits
+pub byte-with_bit : (b : Bool) (n : ℕ) → n < 256 → byte (λ i. if i == 2 then b else is_set n i) ≡ with_bit n 2 b
+byte-with_bit b n small =
+    same_at {A = ℕ} (λ u n. byte (λ i. if i == 2 then b else is_set n i)) (λ u n. with_bit n 2 b) 0 0 256 (set_values b) n (omega arith) (omega arith)
 
-pub or-mask : (n k : ℕ) → n < 256 → k < 8 → bit_or n (2 ^ k) ≡ with_bit n k true
-or-mask n k small place =
-    let at : _ = same_at {A = ℕ} (λ u w. bit_or (w % 256) (2 ^ (w / 256))) (λ u w. with_bit (w % 256) (w / 256) true) 0 0 2048 set_values (k * 256 + n) (omega arith) (omega arith) in
-    let low : (k * 256 + n) % 256 ≡ n = omega arith in
-    let high : (k * 256 + n) / 256 ≡ k = omega arith in
-    rw (low, high) at at
-
-pub and-not_mask : (n k : ℕ) → n < 256 → k < 8 → bit_and n (255 - 2 ^ k) ≡ with_bit n k false
-and-not_mask n k small place =
-    let at : _ = same_at {A = ℕ} (λ u w. bit_and (w % 256) (255 - 2 ^ (w / 256))) (λ u w. with_bit (w % 256) (w / 256) false) 0 0 2048 clear_values (k * 256 + n) (omega arith) (omega arith) in
-    let low : (k * 256 + n) % 256 ≡ n = omega arith in
-    let high : (k * 256 + n) / 256 ≡ k = omega arith in
-    rw (low, high) at at
-
-nonzero_values : values_from {A = ℕ} (λ u n. not (n == 0)) 0 0 256 ≡ values_from {A = ℕ} (λ u n. any_bit (bit n)) 0 0 256
+nonzero_values : table {A = ℕ} (λ u n. not (n == 0)) 0 0 256 ≡ table {A = ℕ} (λ u n. any_bit (is_set n)) 0 0 256
 unfolding any_bit
 nonzero_values = refl
 
 -- a byte is not 0 where one of its bits is 1
-pub nonzero : (n : ℕ) → n < 256 → not (n == 0) ≡ any_bit (bit n)
-nonzero n small = same_at {A = ℕ} (λ u n. not (n == 0)) (λ u n. any_bit (bit n)) 0 0 256 nonzero_values n (omega arith) (omega arith)
+pub nonzero : (n : ℕ) → n < 256 → not (n == 0) ≡ any_bit (is_set n)
+nonzero n small = same_at {A = ℕ} (λ u n. not (n == 0)) (λ u n. any_bit (is_set n)) 0 0 256 nonzero_values n (omega arith) (omega arith)
 
 selected : (a b m : ℕ) → a < 2 → b < 2 → m < 2 → (min ((a + b) % 2) m == 1) ≡ ((m == 1) && differ (a == 1) (b == 1))
 selected zero zero zero ha hb hm = refl
@@ -67,8 +56,8 @@ selected (suc (suc a)) b m ha hb hm = absurd (omega arith)
 selected a (suc (suc b)) m ha hb hm = absurd (omega arith)
 selected a b (suc (suc m)) ha hb hm = absurd (omega arith)
 
--- a bit of the bytes that differ, under a mask
-pub bit-selected : (a b m k : ℕ) → bit (bit_and (bit_xor a b) m) k ≡ (bit m k && differ (bit a k) (bit b k))
+-- a is_set of the bytes that differ, under a mask
+pub bit-selected : (a b m k : ℕ) → is_set (bit_and (bit_xor a b) m) k ≡ (is_set m k && differ (is_set a k) (is_set b k))
 bit-selected a b m k =
     ap (λ v. v == 1) (bit_at_and (bit_xor a b) m k ∙ ap (λ v. min v (bit_at m k)) (bit_at_xor a b k))
     ∙ selected (bit_at a k) (bit_at b k) (bit_at m k) (bit_at-lt a k) (bit_at-lt b k) (bit_at-lt m k)
@@ -93,8 +82,8 @@ weighed_is false n is = rw is refl
 
 -- the bits of the byte that is made of eight
 pub bits-byte : (f : ℕ → Bool)
-    → (bit (byte f) 0 ≡ f 0) × (bit (byte f) 1 ≡ f 1) × (bit (byte f) 2 ≡ f 2) × (bit (byte f) 3 ≡ f 3)
-    × (bit (byte f) 4 ≡ f 4) × (bit (byte f) 5 ≡ f 5) × (bit (byte f) 6 ≡ f 6) × (bit (byte f) 7 ≡ f 7)
+    → (is_set (byte f) 0 ≡ f 0) × (is_set (byte f) 1 ≡ f 1) × (is_set (byte f) 2 ≡ f 2) × (is_set (byte f) 3 ≡ f 3)
+    × (is_set (byte f) 4 ≡ f 4) × (is_set (byte f) 5 ≡ f 5) × (is_set (byte f) 6 ≡ f 6) × (is_set (byte f) 7 ≡ f 7)
 unfolding byte
 bits-byte f =
     let u : ℕ → ℕ = λ k. weighed (f k) 1 in

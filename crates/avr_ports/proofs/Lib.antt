@@ -1,3 +1,4 @@
-pub mod Tables
 pub mod Bytes
 pub mod Pins
+pub mod Edges
+pub mod Alone

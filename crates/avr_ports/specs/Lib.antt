@@ -5,3 +5,4 @@ pub mod Ports
 pub mod Levels
 pub mod Requests
 pub mod Writes
+pub mod Laws

@@ -1,44 +1,48 @@
 -- Where the registers of the ports stand (ATmega328P datasheet, "Register Summary").
-use Rattle.std.specs.Prelude.{ℕ, ◌==◌, Option, Some, None, if◌then◌else◌}
+use Rattle.std.specs.Prelude.{ℕ, ◌==◌, List, [], ◌∷◌, Option, Some, None, if◌then◌else◌, nat_lt}
+use Rattle.avr_sheet.specs.Registers.{io_address, PINB, DDRB, PORTB, PINC, DDRC, PORTC, PIND, DDRD, PORTD, PCIFR, EIFR, EIMSK, PCICR, EICRA, PCMSK0, PCMSK1, PCMSK2}
 use Rattle.avr_ports.specs.declared.port.PortName.TheVariants.{B, C, D}
 use Rattle.avr_ports.specs.declared.register.Register.{Register}
 use Rattle.avr_ports.specs.declared.register.Register.TheVariants as registers
 
+-- A register and its data address.
+pub record Row : Type 0 where
+  pub address : ℕ
+  pub register : Register
+
+abbrev row : ℕ → Register → Row
+row address register = record { address = address; register = register }
+
+abbrev pub port_registers : List Row
+port_registers =
+    row PINB (registers.Pin B) ∷
+    row DDRB (registers.Ddr B) ∷
+    row PORTB (registers.Port B) ∷
+    row PINC (registers.Pin C) ∷
+    row DDRC (registers.Ddr C) ∷
+    row PORTC (registers.Port C) ∷
+    row PIND (registers.Pin D) ∷
+    row DDRD (registers.Ddr D) ∷
+    row PORTD (registers.Port D) ∷
+    row PCIFR registers.ChangeFlags ∷
+    row EIFR registers.ExternalFlags ∷
+    row EIMSK registers.ExternalMask ∷
+    row PCICR registers.ChangeControl ∷
+    row EICRA registers.ExternalControl ∷
+    row PCMSK0 (registers.ChangeMask B) ∷
+    row PCMSK1 (registers.ChangeMask C) ∷
+    row PCMSK2 (registers.ChangeMask D) ∷
+    []
+
+-- The register of the first row with this address.
+abbrev pub register_in : List Row → ℕ → Option Register
+register_in [] addr = None
+register_in (r ∷ more) addr = if addr == r.address then Some r.register else register_in more addr
+
+-- The register at a data address.
+abbrev pub register_at : ℕ → Option Register
+register_at addr = register_in port_registers addr
+
 -- The register at a place of the lower 32 I/O places, which `sbi` and `cbi` reach.
 abbrev pub io_register : ℕ → Option Register
-io_register io =
-    if io == 0x03 then Some (registers.Pin B)
-    else if io == 0x04 then Some (registers.Ddr B)
-    else if io == 0x05 then Some (registers.Port B)
-    else if io == 0x06 then Some (registers.Pin C)
-    else if io == 0x07 then Some (registers.Ddr C)
-    else if io == 0x08 then Some (registers.Port C)
-    else if io == 0x09 then Some (registers.Pin D)
-    else if io == 0x0A then Some (registers.Ddr D)
-    else if io == 0x0B then Some (registers.Port D)
-    else if io == 0x1B then Some registers.ChangeFlags
-    else if io == 0x1C then Some registers.ExternalFlags
-    else if io == 0x1D then Some registers.ExternalMask
-    else None
-
--- The register at a data address: an I/O place stands 20 hexadecimal above its number.
-abbrev pub register_at : ℕ → Option Register
-register_at addr =
-    if addr == 0x23 then Some (registers.Pin B)
-    else if addr == 0x24 then Some (registers.Ddr B)
-    else if addr == 0x25 then Some (registers.Port B)
-    else if addr == 0x26 then Some (registers.Pin C)
-    else if addr == 0x27 then Some (registers.Ddr C)
-    else if addr == 0x28 then Some (registers.Port C)
-    else if addr == 0x29 then Some (registers.Pin D)
-    else if addr == 0x2A then Some (registers.Ddr D)
-    else if addr == 0x2B then Some (registers.Port D)
-    else if addr == 0x3B then Some registers.ChangeFlags
-    else if addr == 0x3C then Some registers.ExternalFlags
-    else if addr == 0x3D then Some registers.ExternalMask
-    else if addr == 0x68 then Some registers.ChangeControl
-    else if addr == 0x69 then Some registers.ExternalControl
-    else if addr == 0x6B then Some (registers.ChangeMask B)
-    else if addr == 0x6C then Some (registers.ChangeMask C)
-    else if addr == 0x6D then Some (registers.ChangeMask D)
-    else None
+io_register io = if nat_lt io 32 then register_at (io_address io) else None

@@ -1,6 +1,6 @@
 -- What makes an external interrupt request (ATmega328P datasheet, "External Interrupts", EICRA).
 use Rattle.std.specs.Prelude.{ℕ, ◌==◌, Bool, false, not, ◌&&◌, if◌then◌else◌}
-use Rattle.avr_ports.specs.Bits.{differ}
+use Rattle.avr_sheet.specs.Bits.{differ}
 use Rattle.avr_ports.specs.declared.external.Sense.{Sense}
 use Rattle.avr_ports.specs.declared.external.Sense.TheVariants.{LowLevel, AnyChange, FallingEdge, RisingEdge}
 

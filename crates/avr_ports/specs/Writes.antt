@@ -5,7 +5,8 @@ use Rattle.avr_ports.specs.declared.port.Port.{Port}
 use Rattle.avr_ports.specs.declared.register.Register.{Register}
 use Rattle.avr_ports.specs.declared.register.Register.TheVariants.{Pin, Ddr, ChangeMask, ChangeFlags, ChangeControl, ExternalFlags, ExternalMask, ExternalControl}
 use Rattle.avr_ports.specs.declared.register.Register.TheVariants as registers
-use Rattle.avr_ports.specs.Bits.{bit, weighed, with_bit}
+use Rattle.avr_sheet.specs.BitNames.{INTF0, INTF1, PCIF0, PCIF1, PCIF2}
+use Rattle.avr_sheet.specs.Bits.{is_set, weighed, with_bit}
 use Rattle.avr_ports.specs.Registers.{register_at, io_register}
 use Rattle.avr_ports.specs.Ports.{PortsState, port_of, with_port}
 use Rattle.avr_ports.specs.Levels.{pins, with_edges}
@@ -29,17 +30,17 @@ driven s name p = with_edges s (with_port s name p)
 -- The flags of pin changes with those cleared to which a byte has a 1.
 abbrev pub with_change_flags_cleared : PortsState → ℕ → PortsState
 with_change_flags_cleared s v = record s {
-  b = record s.b { changed = s.b.changed && not (bit v 0) };
-  c = record s.c { changed = s.c.changed && not (bit v 1) };
-  d = record s.d { changed = s.d.changed && not (bit v 2) };
+  b = record s.b { changed = s.b.changed && not (is_set v PCIF0) };
+  c = record s.c { changed = s.c.changed && not (is_set v PCIF1) };
+  d = record s.d { changed = s.d.changed && not (is_set v PCIF2) };
 }
 
 -- The flags of INT0 and INT1, likewise.
 abbrev pub with_external_flags_cleared : PortsState → ℕ → PortsState
 with_external_flags_cleared s v = record s {
   external = record s.external {
-    int0_flag = s.external.int0_flag && not (bit v 0);
-    int1_flag = s.external.int1_flag && not (bit v 1);
+    int0_flag = s.external.int0_flag && not (is_set v INTF0);
+    int1_flag = s.external.int1_flag && not (is_set v INTF1);
   };
 }
 
@@ -58,7 +59,7 @@ written_register s ExternalControl v = record s { external = record s.external {
 
 -- The ports once one PORT bit is toggled.
 abbrev pub toggled : PortsState → PortName → ℕ → PortsState
-toggled s name k = let p = port_of s name in driven s name (record p { port = with_bit p.port k (not (bit p.port k)) })
+toggled s name k = let p = port_of s name in driven s name (record p { port = with_bit p.port k (not (is_set p.port k)) })
 
 -- The ports once `sbi` or `cbi` writes one bit of a register, and no other bit of it. `sbi` of a PIN bit toggles
 -- that PORT bit and `sbi` of a flag clears that flag; `cbi` of either does nothing.

@@ -1,3 +1,4 @@
+//! The external interrupts INT0 and INT1 (datasheet, "External Interrupts").
 ghost use Rattle.std.specs.Prelude.{◌≡◌, ◌<◌};
 ghost use Rattle.avr_ports.specs.Sense.{sense_of, is_edge, is_low_level};
 

@@ -6,8 +6,8 @@
 //! (ATmega328P datasheet, "I/O-Ports" and "External Interrupts".)
 #![tactic(auto)]
 
-mod bits;
 mod external;
+pub mod laws;
 mod port;
 mod ports;
 mod register;

@@ -1,3 +1,4 @@
+//! A port by its registers (datasheet, "I/O-Ports").
 /// The part's three ports.
 #[derive(Clone, Copy, Debug, PartialEq, Eq)]
 pub enum PortName {

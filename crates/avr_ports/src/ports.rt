@@ -1,14 +1,14 @@
-ghost use Rattle.std.specs.Prelude.{◌≡◌, ◌<◌, ◌&&◌, Option, if◌then◌else◌, bit_xor};
-ghost use Rattle.avr_ports.specs.Bits.{bit};
+//! The ports by their registers, and what they ask for.
+ghost use Rattle.std.specs.Prelude.{◌≡◌, ◌<◌, ◌^◌};
 ghost use Rattle.avr_ports.specs.Ports.{reset_state, port_of, with_port};
 ghost use Rattle.avr_ports.specs.Levels.{pins, level, is_pin_changed, with_edges, int0_sense, int1_sense, is_select_low};
 ghost use Rattle.avr_ports.specs.Requests.{is_requested, pending_vector, served_state};
 ghost use Rattle.avr_ports.specs.Writes.{register_value, written_register, written_register_bit, read_value, written, written_bit, driven, with_change_flags_cleared, with_external_flags_cleared, toggled};
 
-use crate::bits::{has_bit, mask, with_bit};
 use crate::external::{External, Sense, is_edge, is_low_level, sense_of};
 use crate::port::{Port, PortName};
 use crate::register::{Register, io_register, register_at};
+use avr_sheet::{is_set, with_bit};
 use std::marker::Model;
 
 /// The word address of the vector of INT0.
@@ -124,6 +124,7 @@ impl Ports {
 
     /// The pending interrupt, by the word address of its vector: the lowest of those that are enabled and
     /// requested. `None` exactly where there is none.
+    #[inline]
     pub fn pending(&self) -> Option<u8>
         ensures { result ≡ pending_vector self.now }
     {
@@ -131,11 +132,11 @@ impl Ports {
             Some(INT0)
         } else if self.int1_requested() {
             Some(INT1)
-        } else if has_bit(self.pcicr, 0) && self.b.changed {
+        } else if is_set(self.pcicr, 0) && self.b.changed {
             Some(PCINT0)
-        } else if has_bit(self.pcicr, 1) && self.c.changed {
+        } else if is_set(self.pcicr, 1) && self.c.changed {
             Some(PCINT1)
-        } else if has_bit(self.pcicr, 2) && self.d.changed {
+        } else if is_set(self.pcicr, 2) && self.d.changed {
             Some(PCINT2)
         } else {
             None
@@ -165,20 +166,25 @@ impl Ports {
         }
     }
 
-    /// The chip's interrupt line INTn goes to a level. It drives PD2 where that is an input.
+    /// The chip's interrupt line INTn goes to a level. It drives PD2 where that is an input. Returns at once where the line
+    /// stays.
+    #[inline]
     pub fn int_level(&mut self, high: bool)
         ensures { self.new ≡ with_edges self.old (record self.old { int_high = high }) }
     {
-        let before = *self;
-        self.int_high = high;
-        self.raise_flags(&before);
+        if high != self.int_high {
+            let before = *self;
+            self.int_high = high;
+            self.raise_flags(&before);
+        }
     }
 
     /// Whether the chip's select line SCSn is low: PB2 is an output and its PORT bit is 0.
+    #[inline]
     pub fn select_low(&self) -> bool
         ensures { result ≡ is_select_low self.now }
     {
-        has_bit(self.b.ddr, 2) && !has_bit(self.b.port, 2)
+        is_set(self.b.ddr, 2) && !is_set(self.b.port, 2)
     }
 
     fn port(&self, name: PortName) -> Port
@@ -235,8 +241,8 @@ impl Ports {
     fn pd2(&self) -> bool
         ensures { result ≡ level self.now PortName.D 2 }
     {
-        if has_bit(self.d.ddr, 2) {
-            has_bit(self.d.port, 2)
+        if is_set(self.d.ddr, 2) {
+            is_set(self.d.port, 2)
         } else {
             self.int_high
         }
@@ -245,7 +251,7 @@ impl Ports {
     fn pd3(&self) -> bool
         ensures { result ≡ level self.now PortName.D 3 }
     {
-        has_bit(self.d.port, 3)
+        is_set(self.d.port, 3)
     }
 
     fn pins(&self, name: PortName) -> u8
@@ -279,7 +285,7 @@ impl Ports {
         } else {
             self.external.int0_flag
         };
-        has_bit(self.external.eimsk, 0) && made
+        is_set(self.external.eimsk, 0) && made
     }
 
     fn int1_requested(&self) -> bool
@@ -290,7 +296,7 @@ impl Ports {
         } else {
             self.external.int1_flag
         };
-        has_bit(self.external.eimsk, 1) && made
+        is_set(self.external.eimsk, 1) && made
     }
 
     fn value(&self, register: Register) -> u8
@@ -376,22 +382,30 @@ impl Ports {
         ensures { self.new ≡ toggled self.old name k }
     {
         let p = self.port(name);
-        let port = with_bit(p.port, k, !has_bit(p.port, k));
+        let port = with_bit(p.port, k, !is_set(p.port, k));
         self.drive(name, Port { port, ..p });
     }
 
     fn clear_change_flags(&mut self, ones: u8)
         ensures { self.new ≡ with_change_flags_cleared self.old ones }
     {
-        self.b.changed = self.b.changed && !has_bit(ones, 0);
-        self.c.changed = self.c.changed && !has_bit(ones, 1);
-        self.d.changed = self.d.changed && !has_bit(ones, 2);
+        self.b.changed = self.b.changed && !is_set(ones, 0);
+        self.c.changed = self.c.changed && !is_set(ones, 1);
+        self.d.changed = self.d.changed && !is_set(ones, 2);
     }
 
     fn clear_external_flags(&mut self, ones: u8)
         ensures { self.new ≡ with_external_flags_cleared self.old ones }
     {
-        self.external.int0_flag = self.external.int0_flag && !has_bit(ones, 0);
-        self.external.int1_flag = self.external.int1_flag && !has_bit(ones, 1);
+        self.external.int0_flag = self.external.int0_flag && !is_set(ones, 0);
+        self.external.int1_flag = self.external.int1_flag && !is_set(ones, 1);
     }
+}
+
+/// The byte whose one 1 is bit `k`.
+fn mask(k: u8) -> u8
+    requires { k < 8 }
+    ensures { result ≡ 2 ^ k }
+{
+    1 << k
 }

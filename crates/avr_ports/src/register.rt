@@ -1,3 +1,4 @@
+//! The registers by their data addresses and I/O places.
 ghost use Rattle.std.specs.Prelude.{◌≡◌};
 ghost use Rattle.avr_ports.specs.Registers.{register_at, io_register};
 
@@ -56,19 +57,9 @@ pub fn register_at(addr: u16) -> Option<Register>
 pub fn io_register(io: u8) -> Option<Register>
     ensures { result ≡ io_register io }
 {
-    match io {
-        0x03 => Some(Register::Pin(PortName::B)),
-        0x04 => Some(Register::Ddr(PortName::B)),
-        0x05 => Some(Register::Port(PortName::B)),
-        0x06 => Some(Register::Pin(PortName::C)),
-        0x07 => Some(Register::Ddr(PortName::C)),
-        0x08 => Some(Register::Port(PortName::C)),
-        0x09 => Some(Register::Pin(PortName::D)),
-        0x0A => Some(Register::Ddr(PortName::D)),
-        0x0B => Some(Register::Port(PortName::D)),
-        0x1B => Some(Register::ChangeFlags),
-        0x1C => Some(Register::ExternalFlags),
-        0x1D => Some(Register::ExternalMask),
-        _ => None,
+    if io < 32 {
+        register_at(u16::from(io) + 0x20)
+    } else {
+        None
     }
 }

@@ -1,3 +1,4 @@
+//! Calls from reset on, worked by hand from the datasheet.
 use crate::Ports;
 use std::test::Fail;
 

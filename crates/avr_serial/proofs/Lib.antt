@@ -1,2 +1,2 @@
 mod Mirror
-mod Time
+pub mod Time

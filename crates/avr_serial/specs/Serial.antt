@@ -1,14 +1,16 @@
 -- The SPI and the USART transmitter together, with the cycle count that they have passed.
-use Rattle.std.specs.Prelude.{ℕ, ◌*◌, ◌+◌, ◌/◌, ◌%◌, ◌==◌, ◌&&◌, false, Option, Some, None, Result, Ok, Err, if◌then◌else◌}
+use Rattle.std.specs.Prelude.{◌≡◌, ℕ, ◌<◌, min, ◌*◌, ◌+◌, ◌/◌, ◌%◌, ◌==◌, ◌&&◌, false, Option, Some, None, Result, Ok, Err, if◌then◌else◌}
 use Rattle.avr_serial.specs.declared.register.Register.{Register}
 use Rattle.avr_serial.specs.declared.register.Register.TheVariants.{Spcr, Spsr, Spdr, Ucsr0a, Ucsr0b, Ucsr0c, Ubrr0Low, Ubrr0High, Udr0}
 use Rattle.avr_serial.specs.declared.spi.Spi.{Spi}
 use Rattle.avr_serial.specs.declared.usart.Usart.{Usart}
-use Rattle.avr_serial.specs.Bits.{bit}
+use Rattle.avr_sheet.specs.BitNames.{SPIE, SPI2X, UDRIE0, TXCIE0}
+use Rattle.avr_sheet.specs.Bits.{is_set}
+use Rattle.avr_sheet.specs.Vectors.{SPI_STC, USART_UDRE, USART_TX}
 use Rattle.avr_serial.specs.Registers.{register_at}
-use Rattle.avr_serial.specs.Spi.{reset_spi, spsr_value, spsr_read, touched, spdr_written, start_answer, begun, spi_at}
-use Rattle.avr_serial.specs.Usart.{reset_usart, ucsr0a_value, ucsr0a_written, udr0_answer, udr0_written, is_empty, usart_at}
-use Rattle.avr_table.specs.declared.stop.DeviceStop.{DeviceStop}
+use Rattle.avr_serial.specs.Spi.{reset_spi, spsr_value, spsr_read, touched, spdr_written, start_answer, begun, end_of_transfer, spi_at}
+use Rattle.avr_serial.specs.Usart.{reset_usart, ucsr0a_value, ucsr0a_written, udr0_answer, udr0_written, is_empty, end_of_frame, usart_at}
+use Rattle.avr_sheet.specs.declared.stop.DeviceStop.{DeviceStop}
 
 -- the registers and what is on its way, at a cycle count
 pub record SerialState : Type 0 where
@@ -53,7 +55,7 @@ register_answer s register v = Ok tt
 -- what a write of a register leaves; SPSR stores SPI2X alone
 abbrev pub register_written : SerialState → Register → ℕ → SerialState
 register_written s Spcr v = record s { spi = record s.spi { spcr = v } }
-register_written s Spsr v = record s { spi = record s.spi { spi2x = bit v 0 } }
+register_written s Spsr v = record s { spi = record s.spi { spi2x = is_set v SPI2X } }
 register_written s Spdr v = record s { spi = spdr_written v s.spi }
 register_written s Ucsr0a v = record s { usart = ucsr0a_written v s.usart }
 register_written s Ucsr0b v = record s { usart = record s.usart { ucsr0b = v } }
@@ -104,20 +106,28 @@ exchanged s at miso = record s { spi = begun at miso s.spi }
 abbrev pub passed : SerialState → ℕ → SerialState
 passed s to = record { cycle = to; spi = spi_at to s.spi; usart = usart_at to s.usart }
 
--- the pending interrupt, by the word address of its vector (datasheet, "Interrupt Vectors"): SPI 22, USART data
--- register empty 26, USART transmit complete 28
+-- the next event: the first end of what is on its way, the transfer or the frame; the largest number of 64 bits where
+-- nothing is. SPIF and TXC rise, and a waiting byte is printed, at no other time
+abbrev pub next_event : SerialState → ℕ
+next_event s = min (end_of_transfer s.spi.transfer) (end_of_frame s.usart.frame)
+
+-- until then nothing changes but the cycle count
+abbrev pub StaysUntil : SerialState → ℕ → Type 0
+StaysUntil s until = (to : ℕ) → to < until → passed s to ≡ record s { cycle = to }
+
+-- the pending interrupt, by the word address of its vector: the lowest that is enabled and requested
 abbrev pub pending_vector : SerialState → Option ℕ
 pending_vector s =
-    if bit s.spi.spcr 7 && s.spi.spif then Some 0x22
-    else if bit s.usart.ucsr0b 5 && is_empty s.usart then Some 0x26
-    else if bit s.usart.ucsr0b 6 && s.usart.txc then Some 0x28
+    if is_set s.spi.spcr SPIE && s.spi.spif then Some SPI_STC
+    else if is_set s.usart.ucsr0b UDRIE0 && is_empty s.usart then Some USART_UDRE
+    else if is_set s.usart.ucsr0b TXCIE0 && s.usart.txc then Some USART_TX
     else None
 
 -- a vector was served: its flag is cleared, but for UDRE, which only a byte that waits clears
 abbrev pub served_state : SerialState → ℕ → SerialState
 served_state s vector =
-    if vector == 0x22 then record s { spi = record s.spi { spif = false } }
-    else if vector == 0x28 then record s { usart = record s.usart { txc = false } }
+    if vector == SPI_STC then record s { spi = record s.spi { spif = false } }
+    else if vector == USART_TX then record s { usart = record s.usart { txc = false } }
     else s
 
 -- the printed byte was taken

@@ -1,10 +1,10 @@
+//! The SPI and the USART transmitter together.
 ghost use Rattle.std.specs.Prelude.{◌≡◌, ◌≤◌};
 
-use crate::bits::has_bit;
 use crate::register::{Register, register_at};
 use crate::spi::Spi;
 use crate::usart::Usart;
-use avr_table::DeviceStop;
+use avr_sheet::{DeviceStop, is_set};
 use std::marker::Model;
 
 /// The word address of the vector of SPI.
@@ -52,7 +52,7 @@ impl Default for Serial {
 }
 
 impl Serial {
-    ghost use Rattle.avr_serial.specs.Serial.{exchanged, passed, pending_vector, read_state, read_value, register_answer, register_read, register_value, register_written, reset_state, served_state, taken, write_answer, written};
+    ghost use Rattle.avr_serial.specs.Serial.{exchanged, next_event, StaysUntil, passed, pending_vector, read_state, read_value, register_answer, register_read, register_value, register_written, reset_state, served_state, taken, write_answer, written};
     ghost use Rattle.avr_serial.specs.Spi.{start_answer};
 
     /// The part after reset: UCSR0A reads 20, UCSR0C is 06, all other registers are 00, and nothing is on its way.
@@ -99,6 +99,7 @@ impl Serial {
     }
 
     /// The cycles from one count to another go by.
+    #[inline]
     pub fn pass(&mut self, from: u64, to: u64)
         requires { from ≤ to }
         ensures { self.new ≡ passed self.old to }
@@ -109,16 +110,28 @@ impl Serial {
         self.usart.pass(to);
     }
 
+    /// The next event: the cycle count at which the transfer or the frame on its way ends, the earlier where both are, and
+    /// `u64::MAX` where nothing is on its way. Until then nothing changes but the count of cycles: no request comes, and no
+    /// waiting byte enters the shifter.
+    #[inline]
+    pub fn next_event(&self) -> u64
+        ensures value { result ≡ next_event self.now }
+        ensures stays { StaysUntil self.now result }
+    {
+        self.spi.end().min(self.usart.end())
+    }
+
     /// The pending interrupt, by the word address of its vector: the lowest of those that are enabled and
     /// requested. `None` exactly where there is none.
+    #[inline]
     pub fn pending(&self) -> Option<u8>
         ensures { result ≡ pending_vector self.now }
     {
-        if has_bit(self.spi.spcr, 7) && self.spi.spif {
+        if is_set(self.spi.spcr, 7) && self.spi.spif {
             Some(SPI_VECTOR)
-        } else if has_bit(self.usart.ucsr0b, 5) && self.usart.waiting.is_none() {
+        } else if is_set(self.usart.ucsr0b, 5) && self.usart.waiting.is_none() {
             Some(UDRE_VECTOR)
-        } else if has_bit(self.usart.ucsr0b, 6) && self.usart.txc {
+        } else if is_set(self.usart.ucsr0b, 6) && self.usart.txc {
             Some(TX_VECTOR)
         } else {
             None
@@ -157,6 +170,7 @@ impl Serial {
 
     /// Takes the byte that entered the USART's shifter since the last call, the last where there was more than
     /// one. `None` exactly where none did.
+    #[inline]
     pub fn printed(&mut self) -> Option<u8>
         ensures value { result ≡ self.old.usart.printed }
         ensures state { self.new ≡ taken self.old }
@@ -196,7 +210,7 @@ impl Serial {
     {
         match register {
             Register::Spcr => self.spi.spcr = v,
-            Register::Spsr => self.spi.spi2x = has_bit(v, 0),
+            Register::Spsr => self.spi.spi2x = is_set(v, 0),
             Register::Spdr => return self.write_spdr(v),
             Register::Ucsr0a => self.usart.write_ucsr0a(v),
             Register::Ucsr0b => self.usart.ucsr0b = v,

@@ -6,7 +6,7 @@ use Rattle.avr_table.specs.Rows.{rows}
 use Rattle.avr_table.specs.Decoded.{decoded, decoded_by}
 use Rattle.avr_table.specs.declared.instr.Instr.{Instr}
 use Rattle.avr_table.specs.declared.fault.DecodeFault.{DecodeFault}
-use Rattle.avr_table.proofs.Table.{table, same_at}
+use Rattle.avr_sheet.proofs.Table.{table, same_at}
 
 -- It agrees at each of `n` words from `from` on, by computation.
 abbrev pub Agrees : (ℕ → ℕ → Result Instr DecodeFault) → ℕ → ℕ → Type 0

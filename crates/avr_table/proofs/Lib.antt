@@ -1,4 +1,3 @@
-pub mod Table
 pub mod Alike
 pub mod Lower
 pub mod Constants

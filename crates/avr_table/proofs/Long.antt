@@ -11,7 +11,7 @@ use Rattle.avr_table.specs.declared.instr.Instr.TheVariants as instrs
 use Rattle.avr_table.specs.declared.instr.Moves.TheVariants.{Lds, Sts}
 use Rattle.avr_table.specs.declared.instr.Jumps.TheVariants.{Jmp, Call}
 use Rattle.avr_table.specs.declared.fault.DecodeFault.TheVariants.{Undefined}
-use Rattle.avr_table.proofs.Table.{table, same_at}
+use Rattle.avr_sheet.proofs.Table.{table, same_at}
 use Rattle.avr_table.proofs.Rows.{at_first, past_first, is_either, clash, is_apart, is_apart_from, are_apart, all_apart, first_and, second_and, test_from_is, test_from_not}
 
 -- The test of the code.

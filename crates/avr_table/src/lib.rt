@@ -7,9 +7,8 @@ pub mod fault;
 mod fields;
 pub mod instr;
 pub mod laws;
-pub mod stop;
 
 pub use crate::decoder::{decode, two_words};
 pub use crate::fault::DecodeFault;
 pub use crate::instr::{Bits, Instr, Jumps, Logic, Moves, Pointer, Products, Sums};
-pub use crate::stop::DeviceStop;
+pub use avr_sheet::DeviceStop;

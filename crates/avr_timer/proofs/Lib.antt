@@ -5,3 +5,5 @@ pub mod Swings
 pub mod Cuts
 pub mod Pieces
 pub mod Spans
+pub mod QuietLemmas
+pub mod NoTime

@@ -32,6 +32,10 @@ pub record IsHeld (s : TimersState) : Type 0 where
   pub count2 : s.timer2.tcnt ≤ 255
   pub compare2 : s.timer2.ocra ≤ 255
 
+-- Passing no cycles changes nothing.
+abbrev pub NoTimeChangesNothing : Type 0
+NoTimeChangesNothing = (s : TimersState) (at : ℕ) → IsHeld s → passed s at at ≡ s
+
 -- Passing one span of cycles and then the next is passing both at once.
 abbrev pub SpansAddUp : Type 0
 SpansAddUp = (s : TimersState) (a b c : ℕ) → IsHeld s → a ≤ b → b ≤ c → passed (passed s a b) b c ≡ passed s a c

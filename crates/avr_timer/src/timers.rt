@@ -1,14 +1,17 @@
+//! The three timers, and which interrupt of them is pending.
 ghost use Rattle.std.specs.Prelude.{◌≡◌, ◌<◌, ◌≤◌, find};
 ghost use Rattle.avr_timer.specs.Timers.{reset_state, passed};
 ghost use Rattle.avr_timer.specs.Writes.{read_value, read_state, write_outcome, outcome_at, answer_of, left_by};
-ghost use Rattle.avr_timer.specs.Requests.{pending_vector, served_state, is_enabled, is_requested, timer0_vectors, timer1_and_0_vectors};
+ghost use Rattle.avr_timer.specs.Laws.{IsHeld};
+ghost use Rattle.avr_timer.specs.Quiet.{RequestComes, StaysQuiet};
+ghost use Rattle.avr_timer.specs.Requests.{pending_vector, served_state, is_requested, timer0_vectors, timer1_and_0_vectors};
 
 use crate::modes::{prescale_of, timer2_prescale_of};
 use crate::place::{Place, Register8, Register16, place_at};
 use crate::stop::stop_of_assr;
 use crate::timer8::Timer8;
 use crate::timer16::Timer16;
-use avr_table::DeviceStop;
+use avr_sheet::{DeviceStop, is_set};
 use std::marker::Model;
 
 /// The word addresses of the vectors.
@@ -163,6 +166,7 @@ impl Timers {
     }
 
     /// The time passes from one count of cycles since reset to another. A timer that stands is left as it is.
+    #[inline]
     pub fn pass(&mut self, from: u64, to: u64)
         requires { from ≤ to }
         ensures { self.new ≡ passed self.old from to }
@@ -177,28 +181,59 @@ impl Timers {
 
     /// The pending interrupt, by the word address of its vector: the lowest whose flag is set and that is enabled.
     /// `None` exactly where there is none.
+    #[inline]
     pub fn pending(&self) -> Option<u8>
         ensures { result ≡ pending_vector self.now }
     {
-        if is_enabled(self.timer2.timsk, 2) && self.timer2.flags.match_a {
+        if is_set(self.timer2.timsk, 1) && self.timer2.flags.match_a {
             Some(TIMER2_COMPA)
-        } else if is_enabled(self.timer2.timsk, 4) && self.timer2.flags.match_b {
+        } else if is_set(self.timer2.timsk, 2) && self.timer2.flags.match_b {
             Some(TIMER2_COMPB)
-        } else if is_enabled(self.timer2.timsk, 1) && self.timer2.flags.overflow {
+        } else if is_set(self.timer2.timsk, 0) && self.timer2.flags.overflow {
             Some(TIMER2_OVF)
         } else {
             self.pending_of_1_and_0()
         }
     }
 
+    /// The cycle count of the next request of the timers, where none is pending at `now`, the count that was passed last: that
+    /// at which the next tick raises an enabled flag, `u64::MAX` where none does.
+    pub fn quiet_until(&self, now: u64) -> u64
+        ensures before { StaysQuiet self.now now result }
+        ensures at { RequestComes self.now now result }
+    {
+        let until0 = self
+            .timer0
+            .quiet_until(prescale_of(self.timer0.tccrb % 8), now);
+        let until1 = self
+            .timer1
+            .quiet_until(prescale_of(self.timer1.tccrb % 8), now);
+        let until2 = self
+            .timer2
+            .quiet_until(timer2_prescale_of(self.timer2.tccrb % 8), now);
+        until0.min(until1).min(until2)
+    }
+
+    /// The registers hold what fits in them: a fact for proofs, and nothing to run.
+    #[inline(always)]
+    pub fn fits(&self)
+        ensures { IsHeld self.now }
+    {
+        let (count0, compare0) = (self.timer0.tcnt, self.timer0.ocra);
+        let (count1, compare1, capture1) = (self.timer1.tcnt, self.timer1.ocra, self.timer1.icr);
+        let (count2, compare2) = (self.timer2.tcnt, self.timer2.ocra);
+        prove!(count0 <= 255 && compare0 <= 255 && count2 <= 255 && compare2 <= 255);
+        prove!(count1 <= 65535 && compare1 <= 65535 && capture1 <= 65535);
+    }
+
     fn pending_of_1_and_0(&self) -> Option<u8>
         ensures { result ≡ find (is_requested self.now) timer1_and_0_vectors }
     {
-        if is_enabled(self.timer1.timsk, 2) && self.timer1.flags.match_a {
+        if is_set(self.timer1.timsk, 1) && self.timer1.flags.match_a {
             Some(TIMER1_COMPA)
-        } else if is_enabled(self.timer1.timsk, 4) && self.timer1.flags.match_b {
+        } else if is_set(self.timer1.timsk, 2) && self.timer1.flags.match_b {
             Some(TIMER1_COMPB)
-        } else if is_enabled(self.timer1.timsk, 1) && self.timer1.flags.overflow {
+        } else if is_set(self.timer1.timsk, 0) && self.timer1.flags.overflow {
             Some(TIMER1_OVF)
         } else {
             self.pending_of_0()
@@ -208,11 +243,11 @@ impl Timers {
     fn pending_of_0(&self) -> Option<u8>
         ensures { result ≡ find (is_requested self.now) timer0_vectors }
     {
-        if is_enabled(self.timer0.timsk, 2) && self.timer0.flags.match_a {
+        if is_set(self.timer0.timsk, 1) && self.timer0.flags.match_a {
             Some(TIMER0_COMPA)
-        } else if is_enabled(self.timer0.timsk, 4) && self.timer0.flags.match_b {
+        } else if is_set(self.timer0.timsk, 2) && self.timer0.flags.match_b {
             Some(TIMER0_COMPB)
-        } else if is_enabled(self.timer0.timsk, 1) && self.timer0.flags.overflow {
+        } else if is_set(self.timer0.timsk, 0) && self.timer0.flags.overflow {
             Some(TIMER0_OVF)
         } else {
             None
@@ -236,12 +271,4 @@ impl Timers {
             _ => {}
         }
     }
-}
-
-/// Whether TIMSKn has the bit of this weight.
-fn is_enabled(timsk: u8, weight: u8) -> bool
-    requires { 0 < weight }
-    ensures { result ≡ is_enabled timsk weight }
-{
-    timsk / weight % 2 == 1
 }

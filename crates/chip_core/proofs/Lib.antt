@@ -1,4 +1,1 @@
-mod FramerLaws
-mod Tables
-mod CommonPlaces
 mod Free

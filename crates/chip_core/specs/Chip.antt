@@ -9,15 +9,16 @@ use Rattle.chip_sheet.specs.BuiltAnswers.{built_answer}
 use Rattle.chip_sheet.specs.BuiltStops.{unbuilt}
 use Rattle.chip_sheet.specs.BuiltLegal.{BuiltLegal}
 use Rattle.chip_core.specs.declared.chip.Chip.{Chip}
-use Rattle.chip_core.specs.Framer.{framer_of}
-use Rattle.chip_core.specs.CommonRegs.{Holds}
+use Rattle.spi_frame.specs.Framer.{framer_of}
+use Rattle.common_regs.specs.Holding.{Reads}
+use Rattle.chip_sheet.specs.Registers.{common_register}
 
 -- The chip stands for this past: the past is one that may come, and the chip's frame and registers are those that it leaves. So
 -- whoever has a chip that stands for a past may use each law of such pasts.
 pub record Stands (chip : Chip) (past : Past) : Type 0 where
   pub legal : BuiltLegal past
   pub framer : chip.framer ≡ framer_of past
-  pub registers : Holds chip.registers past
+  pub registers : Reads chip.registers (common_register past)
 
 -- The stop that the chip has answered, if it has.
 abbrev pub stop_kept : Chip → Option Unbuilt

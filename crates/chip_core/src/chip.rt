@@ -3,11 +3,11 @@ ghost use Rattle.chip_sheet.specs.Past.{Past};
 ghost use Rattle.chip_sheet.specs.Answers.{idle_byte};
 ghost use Rattle.board_bus.specs.declared.event.BusEvent.TheVariants.{Byte};
 
-use crate::common_regs::CommonRegs;
 use crate::exchange::{access_in, exchange, unbuilt_of};
-use crate::framer::Framer;
 use chip_sheet::event::{BusAnswer, BusEvent};
 use chip_sheet::stop::Unbuilt;
+use common_regs::registers::CommonRegs;
+use spi_frame::framer::Framer;
 
 /// The chip. At each moment it stands for what happened on its bus.
 #[derive(Clone, Copy, Debug)]

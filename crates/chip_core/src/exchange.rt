@@ -8,11 +8,12 @@ ghost use Rattle.chip_sheet.specs.BuiltAnswers.{built_byte};
 ghost use Rattle.chip_sheet.specs.BuiltStops.{unbuilt_of};
 ghost use Rattle.board_bus.specs.declared.event.BusAnswer.{BusAnswer};
 ghost use Rattle.board_bus.specs.declared.event.BusEvent.{BusEvent};
-ghost use Rattle.chip_core.specs.CommonRegs.{Holds};
+ghost use Rattle.chip_sheet.specs.Registers.{common_register};
+ghost use Rattle.common_regs.specs.Holding.{Reads};
 
-use crate::common_regs::CommonRegs;
 use chip_sheet::phase::{Access, Phase};
 use chip_sheet::stop::Unbuilt;
+use common_regs::registers::CommonRegs;
 
 /// What a byte does where it stands at this phase.
 pub fn access_in(phase: Phase, v: u8) -> Access
@@ -54,13 +55,13 @@ pub fn unbuilt_of(access: Access) -> Option<Unbuilt>
 /// Makes an access of the common register block, and answers the byte on MISO; `idle` is that of a byte with no access.
 pub fn exchange(registers: &mut CommonRegs, made: Access, idle: u8) -> u8
     requires { unbuilt_of made ≡ None }
-    ensures out { (past : Past) → Holds registers.old past → idle ≡ idle_byte past → result ≡ built_byte past made }
+    ensures out { (past : Past) → Reads registers.old (common_register past) → idle ≡ idle_byte past → result ≡ built_byte past made }
     ensures after { (past : Past) (e : BusEvent) (a : BusAnswer) → access past e ≡ made
-        → Holds registers.old past → Holds registers.new (Bus e a ∷ past) }
+        → Reads registers.old (common_register past) → Reads registers.new (common_register (Bus e a ∷ past)) }
 {
     match made {
         Access::NoAccess => idle,
-        Access::Read { addr, .. } => registers.read(addr),
+        Access::Read { addr, .. } => registers.read(addr, 0x00),
         Access::Write { addr, value, .. } => {
             registers.write(addr, value);
             0x00

@@ -2,8 +2,6 @@
 #![tactic(auto)]
 
 mod chip;
-mod common_regs;
 mod exchange;
-mod framer;
 
 pub use chip::Chip;

@@ -1,7 +1,7 @@
 -- What was received in the life of a connection is a front of what the link supplied in it: the two are the same until the life leaves
 -- ESTABLISHED, and later no byte is received.
 use Rattle.std.proofs.Common.{◌≡◌, ◌<◌, ℕ, ◌+◌, Bool, true, false, ◌&&◌, ◌||◌, cond, eqb, ltb, List, [], ◌∷◌, ◌++◌, length, append-nil, append_assoc, Option, None, Some, inl, inr, refl, sym, ap, ◌∙◌, subst, arith, ◌⊎◌}
-use Rattle.std.proofs.lemmas.Bool.{cases_Bool, and_left, and_right, and_parts, or_cases, ne_eqb, cond-false, cond_both, false≢true}
+use Rattle.std.proofs.lemmas.Bool.{cases_Bool, and_right, or_cases, ne_eqb, cond-false, cond_both, false≢true}
 use Rattle.chip_sheet.specs.declared.event.Addr.{Addr}
 use Rattle.chip_sheet.specs.declared.event.ConnId.{ConnId}
 use Rattle.chip_sheet.specs.declared.socket.Status.{Status}

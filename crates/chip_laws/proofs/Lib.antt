@@ -1,1 +1,4 @@
 pub mod Front
+mod IdleAnswer
+mod LegalPlaces
+mod ToldLaws

@@ -4,4 +4,7 @@
 //! `chip_rows`.
 #![tactic(auto)]
 
+pub mod answers;
+pub mod legal;
 pub mod supplied;
+pub mod told;

@@ -1,4 +1,4 @@
-// A law of the bytes that the link supplies, the contract of an empty function.
+//! A law of the bytes that the link supplies, the contract of an empty function.
 ghost use Rattle.std.specs.Prelude.{◌≡◌, ℕ, List, ◌++◌, true};
 ghost use Rattle.chip_sheet.specs.Past.{Past};
 ghost use Rattle.chip_sheet.specs.Streams.{Starts, is_made, supplied, got};

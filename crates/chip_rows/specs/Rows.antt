@@ -5,10 +5,11 @@ use Rattle.std.specs.Prelude.{◌≡◌, ℕ, ◌+◌, ◌/◌, ◌%◌, zero, s
 use Rattle.std.specs.List.{filter_map, join_with_byte}
 use Rattle.board_bus.specs.declared.event.BusAnswer.{BusAnswer}
 use Rattle.board_bus.specs.declared.event.BusAnswer.TheVariants.{Done, Out, Level}
+use Rattle.chip_sheet.specs.declared.event.Addr.{Addr}
 use Rattle.chip_sheet.specs.declared.socket.Due.{Due}
 use Rattle.chip_sheet.specs.declared.stop.ChipStop.{ChipStop}
 use Rattle.chip_sheet.specs.Past.{Past}
-use Rattle.chip_sheet.specs.Streams.{Starts, sent, got, supplied}
+use Rattle.chip_sheet.specs.Streams.{Starts, sent, destinations, got, supplied}
 use Rattle.chip_sheet.specs.LinkCalls.{due_at}
 use Rattle.chip_sheet.specs.Replay.{Step, Told, Ending, AllTaken, StoppedBy, NotDue, told}
 use Rattle.board_gen.specs.declared.fault.ScriptFault.{ScriptFault}
@@ -27,13 +28,18 @@ script prints text = record { script = codes script; text = codes text }
 abbrev pub line : String → Line
 line script = record { script = codes script; text = [] }
 
--- Socket 0, and socket 7, opened for TCP; and then connected and linked.
+-- Socket 0, and socket 7, opened for TCP.
 abbrev pub opened : Line
 opened = "L 00 00 0C 01 H L 00 01 0C 01 H" prints "00 00 00 00 00 00 00 00"
 
 abbrev pub opened_7 : Line
 opened_7 = "L 00 00 EC 01 H L 00 01 EC 01 H" prints "00 00 00 00 00 00 00 00"
 
+-- Socket 7, opened for UDP on port 5000.
+abbrev pub opened_for_udp_7 : Line
+opened_for_udp_7 = "L 00 00 EC 02 H L 00 04 EC 13 88 H L 00 01 EC 01 H" prints "00 00 00 00 00 00 00 00 00 00 00 00 00"
+
+-- Socket 0, and socket 7, connected and linked.
 abbrev pub connected : Line
 connected = "L 00 00 0C 01 H L 00 01 0C 01 H L 00 01 0C 04 H @0:linked" prints "00 00 00 00 00 00 00 00 00 00 00 00"
 
@@ -143,3 +149,7 @@ got_after lines n life = after lines (λ starts past. got starts past n life)
 
 abbrev pub supplied_after : List Line → ℕ → ℕ → Option (List ℕ)
 supplied_after lines n life = after lines (λ starts past. supplied past n life)
+
+-- Where its datagrams go.
+abbrev pub destinations_after : List Line → ℕ → ℕ → Option (List Addr)
+destinations_after lines n life = after lines (λ starts past. destinations starts past n life)

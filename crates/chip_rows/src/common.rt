@@ -57,9 +57,15 @@ pub fn resets_in_a_frame()
         ∷ []) }
 {}
 
-/// PHYCFGR keeps bits 7..3 and shows a link; VERSIONR keeps nothing.
+/// PHYCFGR keeps bits 7..3 and shows a link; VERSIONR keeps nothing. MR keeps bits 6..0, and a write with bit 7 resets and keeps
+/// nothing, PPPoE too.
 pub fn keeps_some_bits()
-    ensures { Prints ("L 00 2E 05 42 00 39 05 42 00 2E 01 00 00 39 01 00 H" prints "00 00 00 00 00 00 00 00 00 00 00 47 00 00 00 04" ∷ []) }
+    ensures { Prints (
+        "L 00 2E 05 42 00 39 05 42 00 2E 01 00 00 39 01 00 H" prints "00 00 00 00 00 00 00 00 00 00 00 47 00 00 00 04"
+        ∷ "L 00 00 04 77 H" prints "00 00 00 00"
+        ∷ "L 00 00 00 00 H" prints "00 00 00 77"
+        ∷ "L 00 00 04 88 H L 00 00 00 00 H" prints "00 00 00 00 00 00 00 00"
+        ∷ []) }
 {}
 
 /// The whole common block after power-on, and the reserved place behind it.
@@ -80,13 +86,5 @@ pub fn keeps_the_common_block()
         ∷ "L 00 00 04 80 H" prints "00 00 00 00"
         ∷ "L 00 00 00 00 00 00 00 00 00 00 00 00 00 00 00 00 00 00 00 00 00 00 00 00 00 00 00 00 00 00 00 00 00 H" prints "00 00 00 00 00 00 00 00 00 00 00 00 00 00 00 00 00 00 00 00 00 00 00 00 00 00 00 00 07 D0 08 28 00"
         ∷ "L 00 1E 00 00 00 00 00 00 00 00 00 00 00 00 00 00 00 00 00 00 00 00 00 00 00 00 00 00 00 00 00 00 H" prints "00 00 00 00 00 00 00 00 00 00 00 FF FF 00 00 00 00 00 00 BF 00 00 00 00 00 00 00 00 00 00 04 00"
-        ∷ []) }
-{}
-
-/// MR keeps bits 6..0, and a write with bit 7 resets and keeps nothing, PPPoE too.
-pub fn keeps_the_mode()
-    ensures { Prints (
-        "L 00 00 04 77 H L 00 00 00 00 H" prints "00 00 00 00 00 00 00 77"
-        ∷ "L 00 00 04 88 H L 00 00 00 00 H" prints "00 00 00 00 00 00 00 00"
         ∷ []) }
 {}

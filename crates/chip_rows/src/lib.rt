@@ -6,6 +6,7 @@
 #![tactic(auto)]
 
 pub mod common;
+pub mod datagrams;
 pub mod echo;
 pub mod interrupts;
 pub mod life;

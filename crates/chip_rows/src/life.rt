@@ -79,7 +79,7 @@ pub fn closes_a_connection()
 {}
 
 /// Commands in a status that does not take them do nothing: LISTEN and CONNECT take INIT, DISCON takes ESTABLISHED and
-/// CLOSE_WAIT, OPEN takes CLOSED.
+/// CLOSE_WAIT, OPEN takes CLOSED. SEND_KEEP and bytes that are no command do nothing, and Sn_CR reads 00.
 pub fn ignores_what_does_not_fit()
     ensures listen { Prints (
         "L 00 00 0C 01 H L 00 01 0C 02 H L 00 01 0C 04 H L 00 01 0C 08 H" prints "00 00 00 00 00 00 00 00 00 00 00 00 00 00 00 00"
@@ -104,11 +104,7 @@ pub fn ignores_what_does_not_fit()
         ∷ "L 00 01 0C 08 H L 00 01 0C 08 H L 00 01 0C 01 H L 00 01 0C 02 H" prints "00 00 00 00 00 00 00 00 00 00 00 00 00 00 00 00"
         ∷ "L 00 01 0C 04 H L 00 02 08 00 00 H" prints "00 00 00 00 00 00 00 03 1D"
         ∷ []) }
-{}
-
-/// SEND_KEEP and bytes that are no command do nothing, and Sn_CR reads 00.
-pub fn ignores_other_commands()
-    ensures { Prints (
+    ensures no_command { Prints (
         connected
         ∷ "L 00 01 0C 22 H L 00 01 0C 00 H L 00 01 0C 03 H L 00 01 0C FF H" prints "00 00 00 00 00 00 00 00 00 00 00 00 00 00 00 00"
         ∷ "L 00 01 08 00 00 00 H" prints "00 00 00 00 01 17"
@@ -127,8 +123,15 @@ pub fn closes_behind_the_peer()
 
 /// This side ends first: FIN_WAIT, until the link was shut and the peer has ended, which raises DISCON.
 pub fn closes_first()
-    ensures { Prints (
+    ensures once { Prints (
         connected
+        ∷ "L 00 01 0C 08 H @0:shut L 00 02 08 00 00 H" prints "00 00 00 00 00 00 00 01 18"
+        ∷ "@0:ended L 00 02 08 00 00 H" prints "00 00 00 03 00"
+        ∷ []) }
+    ensures in_the_next_life { Prints (
+        connected
+        ∷ "L 00 01 0C 08 H @0:shut @0:ended @0:dropped L 00 02 0C 1F H" prints "00 00 00 00 00 00 00 00"
+        ∷ "L 00 01 0C 01 H L 00 01 0C 04 H @0:linked" prints "00 00 00 00 00 00 00 00"
         ∷ "L 00 01 0C 08 H @0:shut L 00 02 08 00 00 H" prints "00 00 00 00 00 00 00 01 18"
         ∷ "@0:ended L 00 02 08 00 00 H" prints "00 00 00 03 00"
         ∷ []) }

@@ -112,11 +112,12 @@ pub fn sends_nothing()
         ∷ []) }
 {}
 
-/// SEND does nothing in INIT, LISTEN, SYNSENT, FIN_WAIT and LAST_ACK: no bit rises, and TX_RD stays.
+/// SEND does nothing in INIT, LISTEN, SYNSENT, FIN_WAIT and LAST_ACK: no bit rises, TX_RD stays, and no length is
+/// too much.
 pub fn sends_nothing_elsewhere()
     ensures listen { Prints (
         opened
-        ∷ "L 00 25 0C 02 H L 00 01 0C 20 H L 00 02 08 00 H" prints "00 00 00 00 00 00 00 00 00 00 00 00"
+        ∷ "L 00 24 0C 09 00 H L 00 01 0C 20 H L 00 02 08 00 H" prints "00 00 00 00 00 00 00 00 00 00 00 00 00"
         ∷ "L 00 20 08 00 00 00 00 H" prints "00 00 00 08 00 00 00"
         ∷ "L 00 01 0C 02 H L 00 01 0C 20 H L 00 02 08 00 H" prints "00 00 00 00 00 00 00 00 00 00 00 00"
         ∷ "L 00 20 08 00 00 00 00 H" prints "00 00 00 08 00 00 00"

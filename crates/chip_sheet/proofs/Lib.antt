@@ -1,13 +1,11 @@
 pub mod FrameLaws
 mod LegalPlaces
-mod IdleAnswer
 pub mod BuiltPast
 pub mod SentLaws
 pub mod StopRows
 pub mod Within
 pub mod ResetLaws
 pub mod Places
-pub mod ToldLaws
 pub mod SizeLaws
 pub mod LifeSteps
 pub mod FitLaws

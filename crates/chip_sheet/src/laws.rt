@@ -1,13 +1,7 @@
-// Laws of the definitions, each the contract of an empty function.
-ghost use Rattle.std.specs.Prelude.{◌↔◌};
+//! Laws of the definitions, each the contract of an empty function.
 ghost use Rattle.chip_sheet.specs.Past.{Past, GoesOn};
 ghost use Rattle.chip_sheet.specs.Streams.{Starts};
-ghost use Rattle.chip_sheet.specs.Legal.{Legal, LegalAtEach};
-
-/// A history is legal exactly where each of its entries fits what came before it.
-pub fn legal_at_each_place()
-    ensures { (starts : Starts) (past : Past) → Legal starts past ↔ LegalAtEach starts past }
-{}
+ghost use Rattle.chip_sheet.specs.Legal.{Legal};
 
 /// What had happened at an earlier moment of a legal history is legal too.
 pub fn legal_before()

@@ -1,4 +1,4 @@
-// Laws of the sockets' definitions, each the contract of an empty function.
+//! Laws of the sockets' definitions, each the contract of an empty function.
 ghost use Rattle.std.specs.Prelude.{◌≡◌, ◌≤◌, ◌<◌, ◌↔◌, ◌==◌, not, bit_and, ℕ, ◌+◌, ◌-◌, ◌*◌, ◌%◌, ◌^◌, ◌⊎◌, List, [], ◌∷◌, ◌++◌, length, take, slice_get, slice_index, Some, None, true, false, if◌then◌else◌};
 ghost use Rattle.std.specs.Option.{IsSome};
 ghost use Rattle.board_bus.specs.declared.event.BusEvent.{BusEvent};
@@ -14,9 +14,8 @@ ghost use Rattle.chip_sheet.specs.declared.phase.Access.TheVariants.{NoAccess, W
 ghost use Rattle.chip_sheet.specs.declared.socket.Status.TheVariants.{Closed, Established, FinWait, CloseWait, LastAck, Udp};
 ghost use Rattle.chip_sheet.specs.declared.socket.Cause.TheVariants.{Send};
 ghost use Rattle.chip_sheet.specs.declared.event.Entry.{Entry};
-ghost use Rattle.chip_sheet.specs.declared.event.LinkEntry.{LinkEntry};
 ghost use Rattle.chip_sheet.specs.Past.{Past, GoesOn};
-ghost use Rattle.chip_sheet.specs.Frames.{access, access_of, is_low};
+ghost use Rattle.chip_sheet.specs.Frames.{access, access_of};
 ghost use Rattle.chip_sheet.specs.Registers.{is_reset};
 ghost use Rattle.chip_sheet.specs.Life.{cause, status, lives, old, is_closed, is_udp};
 ghost use Rattle.chip_sheet.specs.Sizes.{is_size, tx_size, rx_size};
@@ -24,7 +23,6 @@ ghost use Rattle.chip_sheet.specs.Streams.{Starts, sent, sends, range, range_len
 ghost use Rattle.chip_sheet.specs.Windows.{flight, unread, tx_free, rx_free, rx_byte, in_flight_at, offered_length, offered, room_length};
 ghost use Rattle.chip_sheet.specs.Answers.{answer, byte_at};
 ghost use Rattle.chip_sheet.specs.Legal.{Legal, FitsAfter};
-ghost use Rattle.chip_sheet.specs.Replay.{Step, Happens, AllTaken, told};
 ghost use Rattle.chip_sheet.specs.Bits.{has_bit};
 ghost use Rattle.chip_sheet.specs.Interrupts.{bit_value, raised_by, raised, interrupt_register, mask, asks, sir_register, enabled_sockets, interrupt_low};
 ghost use Rattle.chip_sheet.specs.declared.socket.Interrupt.{Interrupt};
@@ -42,12 +40,6 @@ ghost use Rattle.chip_sheet.specs.declared.socket.Cause.TheVariants.{Nothing, Dr
 ghost use Rattle.chip_sheet.specs.declared.socket.Due.TheVariants as due;
 ghost use Rattle.chip_sheet.specs.Names.{sn_cr, send_command};
 ghost use Rattle.chip_sheet.specs.Stops.{stop};
-
-/// A byte that makes no access is answered FF while the select line is high, and 00 while it is low.
-pub fn idle_answer()
-    ensures high { (starts : Starts) (past : Past) (v : ℕ) → access past (Byte v) ≡ NoAccess → is_low past ≡ false → answer starts past (Byte v) ≡ Out 0xFF }
-    ensures low { (starts : Starts) (past : Past) (v : ℕ) → access past (Byte v) ≡ NoAccess → is_low past ≡ true → answer starts past (Byte v) ≡ Out 0x00 }
-{}
 
 /// What was sent in a life of a socket stays: at each later moment it is a front of what is sent then.
 pub fn sent_stays()
@@ -83,20 +75,6 @@ pub fn reset_empties()
 /// A position and the pointer that shows it, modulo 65,536, name the same place of a buffer of any size that there is.
 pub fn same_place()
     ensures { (kilobytes at : ℕ) → is_size kilobytes ≡ true → 0 < kilobytes → at % 65536 % (kilobytes * 1024) ≡ at % (kilobytes * 1024) }
-{}
-
-/// What the first steps of a script are told stays, whatever comes behind them: where all of them were taken, the whole script is
-/// told what they are, and then what the others are from there on. What had happened before a script stays behind what it adds.
-pub fn answers_stay()
-    ensures answers { (starts : Starts) (past : Past) (xs ys : List Step) → (told starts past xs).ending ≡ AllTaken → (told starts past (xs ++ ys)).answers ≡ (told starts past xs).answers ++ (told starts (told starts past xs).past ys).answers }
-    ensures goes_on { (starts : Starts) (past : Past) (xs ys : List Step) → (told starts past xs).ending ≡ AllTaken → (told starts past (xs ++ ys)).past ≡ (told starts (told starts past xs).past ys).past }
-    ensures ends { (starts : Starts) (past : Past) (xs ys : List Step) → (told starts past xs).ending ≡ AllTaken → (told starts past (xs ++ ys)).ending ≡ (told starts (told starts past xs).past ys).ending }
-    ensures keeps { (starts : Starts) (past : Past) (xs : List Step) → GoesOn past (told starts past xs).past }
-{}
-
-/// Steps that follow a legal history make a legal one, where their link events are of the eight sockets.
-pub fn told_is_legal()
-    ensures { (starts : Starts) (past : Past) (xs : List Step) → Legal starts past → ((i n : ℕ) (what : LinkEntry) → slice_get xs i ≡ Some (Happens n what) → n < 8) → Legal starts (told starts past xs).past }
 {}
 
 /// A byte in flight stands at the place of an address exactly where the buffer has a size and the position of some byte in flight

@@ -4,7 +4,7 @@ use Rattle.std.proofs.lemmas.List.{drop_more, drop_all, get_or-set_same, get_or-
 use Rattle.std.proofs.lemmas.Bool.{eq-eqb, cases_lt, false≢true}
 use Rattle.std.proofs.lemmas.Bool.Decides.{eqb_tells}
 use Rattle.std.proofs.lemmas.Grind.{common_steps}
-use Rattle.ihex.specs.Image.{filled, erased}
+use Rattle.flash.specs.Image.{filled, erased}
 use Rattle.ihex.specs.Flash.{Placed, placed, written, last_byte, bytes_at, flash_byte}
 use Rattle.ihex.specs.Record.{is_outside, record_data, type_of, address_of, data_of}
 

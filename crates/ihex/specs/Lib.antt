@@ -1,6 +1,5 @@
 pub mod Digits
 pub mod Flash
-pub mod Image
 pub mod Reading
 pub mod Record
 pub mod Store

@@ -1,15 +1,15 @@
 //! Records, one a line.
 ghost use Rattle.std.specs.Prelude.{◌≡◌, ◌+◌, ◌*◌, ◌<◌, ◌≤◌, ◌^◌, length, sum, false, OnOk, IfOk, IfErr, IsTrue};
 ghost use Rattle.ihex.specs.Digits.{bytes_of};
-ghost use Rattle.ihex.specs.Image.{erased};
+ghost use Rattle.flash.specs.Image.{erased};
 ghost use Rattle.ihex.specs.Flash.{placed, written};
 ghost use Rattle.ihex.specs.Record.{first_kind, record_faults, digit_faults, fault_of, at_start, below, below_record, line_data, record_data, count_fits, count_of, address_of, type_of, value_of, data_of, is_outside};
 ghost use Rattle.ihex.specs.Reading.{above_of};
 
 use crate::digits::{are_digits, read_bytes};
 use crate::fault::HexKind;
-use crate::image::{Image, NoMemory};
-use std::alloc::Global;
+use flash::Image;
+use std::alloc::{AllocError, Global};
 
 /// The image so far, and what the lines so far leave for the next one.
 #[derive(Debug, Drop)]
@@ -135,7 +135,7 @@ fn value(bytes: &[u8]) -> u32
 
 impl Reader {
     /// Above the first line: erased flash.
-    pub fn new(alloc: Global) -> Result<Self, NoMemory>
+    pub fn new(alloc: Global) -> Result<Self, AllocError>
         ensures image { IfOk result (λ reader. reader.image ≡ erased) }
         ensures above { IfOk result (λ reader. above_of reader ≡ at_start) }
     {

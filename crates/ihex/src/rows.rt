@@ -3,8 +3,8 @@ ghost use Rattle.std.specs.Prelude.{◌≡◌, ℕ, ◌∷◌, ◌++◌, [], ◌
 ghost use Rattle.std.specs.List.{list_all};
 ghost use Rattle.ihex.specs.Store.{upper, digits_of, checksum, head_of, record_line, row_of, row_line, rows_below, end_line, hex_text};
 
-use crate::image::{Image, NoMemory};
 use crate::record::sum_of;
+use flash::Image;
 use std::alloc::{AllocError, Global};
 
 // The character of a value below 16.
@@ -76,9 +76,9 @@ fn push_row(text: &mut Vec<u8>, image: &Image, k: u16) -> Result<(), AllocError>
 ///
 /// # Errors
 ///
-/// `NoMemory`.
+/// No memory was left.
 #[tactic(auto, unfolding(crate::specs::Store::hex_text))]
-pub fn store(alloc: Global, image: &Image) -> Result<Vec<u8>, NoMemory>
+pub fn store(alloc: Global, image: &Image) -> Result<Vec<u8>, AllocError>
     ensures { IfOk result (λ text. text.items ≡ hex_text image.now) }
 {
     let mut text = Vec::new(alloc);

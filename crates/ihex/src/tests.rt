@@ -1,4 +1,4 @@
-// Texts worked by hand: checksums by the sum rule of the format.
+//! Texts worked by hand: checksums by the sum rule of the format.
 use crate::{HexError, HexFault, HexKind, Image, load, store};
 use std::alloc::Global;
 use std::test::Fail;
@@ -75,10 +75,10 @@ fn images(rt: HostRuntime) -> Result<(), Fail> {
 
 #[test]
 fn stores(rt: HostRuntime) -> Result<(), Fail> {
-    let mut image = Image::blank(rt.alloc()).map_err(|_| "no memory")?;
+    let mut image = Image::blank(rt.alloc())?;
     image.set(0, 0x98);
     image.set(1, 0x95);
-    let text = store(rt.alloc(), &image).map_err(|_| "no memory")?;
+    let text = store(rt.alloc(), &image)?;
     let row = ":100000009895FFFFFFFFFFFFFFFFFFFFFFFFFFFFD1\n:00000001FF\n";
     assert_eq!(rt; text.as_slice(), row.as_bytes());
     assert_eq!(rt; byte_of(rt.alloc(), text.as_slice(), 1), Some(0x95));

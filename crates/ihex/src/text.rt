@@ -2,21 +2,21 @@
 ghost use Rattle.std.specs.Prelude.{◌≡◌, ℕ, ◌∷◌, ◌+◌, ◌<◌, ◌≤◌, ◌==◌, [], None, length, slice_index, OnOk, IfOk, IfErr};
 ghost use Rattle.std.specs.List.{position};
 ghost use Rattle.std.specs.Str.Lines.{lines, strip_carriage_return};
-ghost use Rattle.ihex.specs.Image.{erased};
+ghost use Rattle.flash.specs.Image.{erased};
 ghost use Rattle.ihex.specs.Flash.{written, flash_byte};
 ghost use Rattle.ihex.specs.Text.{fault_behind, fault_in, data_behind, data_in, Tells};
 ghost use Rattle.ihex.specs.Reading.{above_of};
 ghost use Rattle.ihex.specs.declared.fault.HexError.TheVariants.{Fault, NoMemory};
 
 use crate::fault::{HexError, HexFault, HexKind};
-use crate::image::{Image, NoMemory};
 use crate::record::Reader;
-use std::alloc::Global;
+use flash::Image;
+use std::alloc::{AllocError, Global};
 
-impl From<NoMemory> for HexError {
+impl From<AllocError> for HexError {
     ghost from_gives = { λ _ e. e ≡ NoMemory };
 
-    fn from(_: NoMemory) -> Self {
+    fn from(_: AllocError) -> Self {
         HexError::NoMemory
     }
 }

@@ -4,7 +4,7 @@ use Rattle.std.specs.List.{All, list_all}
 use Rattle.std.specs.Str.Lines.{lines}
 use Rattle.std.specs.Prelude.{sum}
 use Rattle.ihex.specs.Flash.{Placed, placed, written}
-use Rattle.ihex.specs.Image.{erased, filled}
+use Rattle.flash.specs.Image.{erased, filled}
 use Rattle.ihex.specs.Record.{at_start}
 use Rattle.ihex.specs.Store.{checksum, end_line, head_of, hex_text, record_line, row_line, row_of, rows_below}
 use Rattle.ihex.specs.Text.{data_behind, data_in, fault_behind, fault_in}

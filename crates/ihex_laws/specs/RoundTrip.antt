@@ -1,7 +1,7 @@
 -- Intel HEX both ways.
 use Rattle.std.specs.Prelude.{◌≡◌, ◌<◌, ℕ, List, length, All, None}
 use Rattle.ihex.specs.Flash.{written}
-use Rattle.ihex.specs.Image.{erased}
+use Rattle.flash.specs.Image.{erased}
 use Rattle.ihex.specs.Store.{hex_text}
 use Rattle.ihex.specs.Text.{data_in, fault_in}
 

@@ -1,7 +1,7 @@
 -- The words up to the last one other than FFFF, looked for from the end.
 use Rattle.std.proofs.Common.{◌≡◌, ◌≢◌, ◌<◌, ◌≤◌, ◌-◌, ℕ, zero, suc, List, refl, sym, arith, sub-one, inl, inr, eq-or-lt_of_le}
 use Rattle.std.proofs.lemmas.Bool.{cond-true, cond-false, cases_eq, eq-eqb, ne_eqb}
-use Rattle.ihex.specs.Image.{word_at}
+use Rattle.flash.specs.Image.{word_at}
 use Rattle.wz_board.specs.Listing.{EndsBehindTheLastWord, IsEnd, used, used_below}
 
 pub used_whole : (image : List ℕ) → used_below image 16384 ≡ used image

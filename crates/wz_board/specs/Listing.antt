@@ -1,6 +1,6 @@
 -- The listing of a flash image: a line for each instruction, from word 0 to the last word other than FFFF.
 use Rattle.std.specs.Prelude.{◌≡◌, ◌≢◌, ◌<◌, ◌≤◌, ◌-◌, ℕ, zero, suc, ◌+◌, ◌/◌, ◌%◌, ◌==◌, nat_lt, List, [], ◌∷◌, ◌++◌, codes, Result, Ok, Err, if◌then◌else◌}
-use Rattle.ihex.specs.Image.{word_at}
+use Rattle.flash.specs.Image.{word_at}
 use Rattle.avr_table.specs.declared.instr.Instr.{Instr}
 use Rattle.avr_table.specs.declared.fault.DecodeFault.{DecodeFault}
 use Rattle.avr_table.specs.Decoded.{decoded}

@@ -16,7 +16,7 @@ use Rattle.wz_board.specs.declared.quick.TheConstants.{TEXT_LIMIT}
 use Rattle.wz_board.specs.Ends.{fault_text}
 use Rattle.ihex.specs.declared.fault.HexFault.{HexFault}
 use Rattle.ihex.specs.Flash.{written}
-use Rattle.ihex.specs.Image.{erased}
+use Rattle.flash.specs.Image.{erased}
 use Rattle.ihex.specs.Text.{data_in, fault_in}
 use Rattle.wz_board.specs.Listing.{listing}
 use Rattle.wz_board.specs.Words.{Asked, Bus, ListOf, operand_of}

@@ -1,5 +1,5 @@
 use Rattle.std.proofs.Common.{◌≡◌, ℕ, List, get_or, ap, ◌∙◌}
-use Rattle.ihex.specs.Image.{erased}
+use Rattle.flash.specs.Image.{erased}
 use Rattle.ihex.specs.Flash.{written}
 use Rattle.ihex.specs.Text.{data_in}
 use Rattle.ihex.proofs.Flash.{flash_at}

@@ -2,10 +2,10 @@ use Rattle.std.proofs.Common.{rules}
 use Rattle.avr_ports.specs.Levels.{level}
 use Rattle.avr_ports.proofs.ports.Ports.pd2.Goals as goal
 
-pub returns-then-has_bit : goal.returns-then-has_bit
+pub returns-then-is_set : goal.returns-then-is_set
 unfolding level
-returns-then-has_bit c = search rules
+returns-then-is_set c = search rules
 
-pub returns-else-has_bit : goal.returns-else-has_bit
+pub returns-else-is_set : goal.returns-else-is_set
 unfolding level
-returns-else-has_bit c = search rules
+returns-else-is_set c = search rules

@@ -1,0 +1,5 @@
+pub mod Registers
+pub mod BitNames
+pub mod Vectors
+pub mod Bits
+pub mod Laws

@@ -1,0 +1,10 @@
+//! A law of legal histories, the contract of an empty function.
+ghost use Rattle.std.specs.Prelude.{◌↔◌};
+ghost use Rattle.chip_sheet.specs.Past.{Past};
+ghost use Rattle.chip_sheet.specs.Streams.{Starts};
+ghost use Rattle.chip_sheet.specs.Legal.{Legal, LegalAtEach};
+
+/// A history is legal exactly where each of its entries fits what came before it.
+pub fn legal_at_each_place()
+    ensures { (starts : Starts) (past : Past) → Legal starts past ↔ LegalAtEach starts past }
+{}

@@ -1,5 +1,0 @@
-use Rattle.chip_sheet.proofs.IdleAnswer.{idle_high, idle_low}
-use Rattle.chip_sheet.proofs.socket_laws.idle_answer.Goals as goal
-
-pub returns : goal.returns
-returns c = record { high = idle_high; low = idle_low }

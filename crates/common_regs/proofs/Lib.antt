@@ -1,0 +1,3 @@
+mod Tables
+mod CommonPlaces
+pub mod Steps

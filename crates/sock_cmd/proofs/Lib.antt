@@ -1,0 +1,3 @@
+pub mod SocketLives
+pub mod StopOrder
+pub mod EffectCases
