@@ -19,5 +19,3 @@ pub mod MadeLaws
 pub mod LivesLaws
 pub mod SendLaws
 pub mod DatagramLaws
-pub mod SendingSteps
-pub mod ReceivingSteps

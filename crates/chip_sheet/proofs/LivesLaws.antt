@@ -20,7 +20,7 @@ record IsBehind (at : Life) (l : ℕ) : Type 0 where
   most : l ≤ at.lives
   closed : l ≡ at.lives → is_closed at.status ≡ true
 
-pub closed_stays : (at : Status) (why : Cause) (facts : Facts) → begins why at ≡ false → is_closed at ≡ true → is_closed (next at why facts) ≡ true
+closed_stays : (at : Status) (why : Cause) (facts : Facts) → begins why at ≡ false → is_closed at ≡ true → is_closed (next at why facts) ≡ true
 closed_stays Closed because.OpenTcp facts old h = cc
 closed_stays Closed because.OpenUdp facts old h = cc
 closed_stays Closed why facts old h = refl

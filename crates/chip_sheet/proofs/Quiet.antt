@@ -261,10 +261,10 @@ rx_base_same starts past entry n h =
     ap (λ (at : Life). cond (is_made (entry ∷ past) n at.lives) starts.rx 0) h.life ∙ ap (λ (b : Bool). cond b starts.rx 0) (h.made (lives past n))
 
 -- A number, and a list, that count where a life was opened.
-pub opened_number : (opened opened2 : Bool) (x y : ℕ) → opened2 ≡ opened → x ≡ y → cond opened2 x 0 ≡ cond opened y 0
+opened_number : (opened opened2 : Bool) (x y : ℕ) → opened2 ≡ opened → x ≡ y → cond opened2 x 0 ≡ cond opened y 0
 opened_number opened opened2 x y e f = ap (λ (b : Bool). cond b x 0) e ∙ ap (λ (z : ℕ). cond opened z 0) f
 
-pub opened_list : (opened opened2 : Bool) (x y : List ℕ) → opened2 ≡ opened → x ≡ y → cond opened2 x [] ≡ cond opened y []
+opened_list : (opened opened2 : Bool) (x y : List ℕ) → opened2 ≡ opened → x ≡ y → cond opened2 x [] ≡ cond opened y []
 opened_list opened opened2 x y e f = ap (λ (b : Bool). cond b x []) e ∙ ap (λ (z : List ℕ). cond opened z []) f
 
 -- What is said of each life is said of the present one.

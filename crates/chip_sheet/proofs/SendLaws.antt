@@ -34,7 +34,7 @@ use Rattle.chip_sheet.proofs.SizeLaws.{size_kept}
 use Rattle.chip_sheet.proofs.ResetRestores.{tx_block}
 
 -- A byte that is written to Sn_CR is the command that it says.
-pub no_reset_there : (n addr v : ℕ) → is_reset (Write (registers_of n) addr v) ≡ false
+no_reset_there : (n addr v : ℕ) → is_reset (Write (registers_of n) addr v) ≡ false
 no_reset_there n addr v = ap (λ (b : Bool). b && eqb addr 0x00 && leb 128 v) (ne_eqb (4 * n + 1) 0 (λ e. omega (arith, e)))
 
 pub command_cause : (past : Past) (n v : ℕ) → cause_by past n (Write (registers_of n) 0x01 v) ≡ command (protocol past n) v

@@ -170,7 +170,7 @@ nothing_opens : (asked : Cause) → is_opening asked ≡ true → because.Nothin
 unfolding is_opening
 nothing_opens asked opens h = false≢true (ap is_opening h ∙ opens)
 
-pub resizes_command : (past : Past) (m v : ℕ) → (resizes past rx_sizes (Write (registers_of m) 0x01 v) ≡ false) × (resizes past tx_sizes (Write (registers_of m) 0x01 v) ≡ false)
+resizes_command : (past : Past) (m v : ℕ) → (resizes past rx_sizes (Write (registers_of m) 0x01 v) ≡ false) × (resizes past tx_sizes (Write (registers_of m) 0x01 v) ≡ false)
 resizes_command past m v =
     (ap (λ (b : Block). resizes_block past rx_sizes b 0x01 v) (registers_block m), ap (λ (b : Block). resizes_block past tx_sizes b 0x01 v) (registers_block m))
 

@@ -1,22 +1,19 @@
 -- What stays of a socket when an entry does not concern it.
-use Rattle.std.specs.Prelude.{◌≡◌, ℕ, ◌+◌, List, Bool, false, not, ◌==◌, ◌∷◌, Option, None}
+use Rattle.std.specs.Prelude.{◌≡◌, ℕ, List, Bool, false, ◌==◌, ◌∷◌, Option}
 use Rattle.chip_sheet.specs.declared.event.Addr.{Addr}
 use Rattle.chip_sheet.specs.declared.event.Entry.{Entry}
 use Rattle.chip_sheet.specs.declared.phase.Access.{Access}
 use Rattle.chip_sheet.specs.declared.phase.Access.TheVariants.{NoAccess, Read, Write}
-use Rattle.chip_sheet.specs.declared.socket.Status.{Status}
-use Rattle.chip_sheet.specs.declared.socket.Cause.{Cause}
 use Rattle.chip_sheet.specs.declared.socket.Cause.TheVariants as because
 use Rattle.chip_sheet.specs.declared.socket.Interrupt.{Interrupt}
 use Rattle.chip_sheet.specs.Past.{Past}
 use Rattle.chip_sheet.specs.Frames.{access_of}
-use Rattle.chip_sheet.specs.Names.{sn_tx_wr, sn_rx_rd}
 use Rattle.chip_sheet.specs.Blocks.{registers_of, tx_buffer_of}
-use Rattle.chip_sheet.specs.Registers.{is_reset, written_by, last_written}
-use Rattle.chip_sheet.specs.Life.{life, cause, begins}
+use Rattle.chip_sheet.specs.Registers.{last_written}
+use Rattle.chip_sheet.specs.Life.{life, cause}
 use Rattle.chip_sheet.specs.Sizes.{tx_sizes, rx_sizes, resizes}
 use Rattle.chip_sheet.specs.Peers.{peer_byte}
-use Rattle.chip_sheet.specs.Streams.{Starts, sends, is_open, sent, ends, destinations, taken, supplied, got, released, is_made}
+use Rattle.chip_sheet.specs.Streams.{Starts, sent, ends, destinations, taken, supplied, got, released, is_made}
 use Rattle.chip_sheet.specs.Windows.{flight, unread, is_opened}
 use Rattle.chip_sheet.specs.Buffers.{sending, receiving}
 use Rattle.chip_sheet.specs.Interrupts.{interrupts_by, raised}
@@ -74,37 +71,3 @@ pub record LeavesOther (starts : Starts) (past : Past) (entry : Entry) (n life :
   pub supplied : supplied (entry ∷ past) n life ≡ supplied past n life
   pub destinations : destinations starts (entry ∷ past) n life ≡ destinations starts past n life
   pub released : released starts (entry ∷ past) n life ≡ released starts past n life
-
--- What happens adds nothing to what is sent, takes nothing of it, and begins no life and no connection.
-abbrev pub keeps_sent : Cause → Status → Bool
-keeps_sent because.Reset status = false
-keeps_sent because.Send status = not (sends status)
-keeps_sent because.Linked status = false
-keeps_sent because.Accepted status = false
-keeps_sent (because.Took count) status = false
-keeps_sent why status = not (begins why status)
-
--- An entry leaves the TX buffer of socket n and Sn_TX_WR as they are.
-pub record LeavesTx (past : Past) (entry : Entry) (n : ℕ) : Type 0 where
-  pub no_reset : is_reset (access_of past entry) ≡ false
-  pub sizes : resizes past tx_sizes (access_of past entry) ≡ false
-  pub buffer : writes_to (access_of past entry) (tx_buffer_of n) ≡ false
-  pub high : written_by (access_of past entry) (registers_of n) sn_tx_wr ≡ None
-  pub low : written_by (access_of past entry) (registers_of n) (sn_tx_wr + 1) ≡ None
-
--- What happens brings nothing and releases nothing, and begins no life and no connection.
-abbrev pub keeps_got : Cause → Status → Bool
-keeps_got because.Reset status = false
-keeps_got because.Receive status = not (is_open status)
-keeps_got because.Linked status = false
-keeps_got because.Accepted status = false
-keeps_got because.Got status = false
-keeps_got (because.Datagram count) status = false
-keeps_got why status = not (begins why status)
-
--- An entry leaves the size of the RX buffer of socket n and Sn_RX_RD as they are.
-pub record LeavesRx (past : Past) (entry : Entry) (n : ℕ) : Type 0 where
-  pub no_reset : is_reset (access_of past entry) ≡ false
-  pub sizes : resizes past rx_sizes (access_of past entry) ≡ false
-  pub high : written_by (access_of past entry) (registers_of n) sn_rx_rd ≡ None
-  pub low : written_by (access_of past entry) (registers_of n) (sn_rx_rd + 1) ≡ None

@@ -11,5 +11,4 @@ pub mod laws;
 pub mod phase;
 pub mod socket;
 pub mod socket_laws;
-pub mod step_laws;
 pub mod stop;
