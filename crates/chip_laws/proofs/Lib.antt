@@ -2,3 +2,4 @@ pub mod Front
 mod IdleAnswer
 mod LegalPlaces
 mod ToldLaws
+pub mod OverLives

@@ -5,6 +5,7 @@
 #![tactic(auto)]
 
 pub mod answers;
+pub mod counts;
 pub mod legal;
 pub mod supplied;
 pub mod told;
