@@ -3,3 +3,4 @@ mod IdleAnswer
 mod LegalPlaces
 mod ToldLaws
 pub mod OverLives
+pub mod SentStands

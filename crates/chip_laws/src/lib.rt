@@ -7,5 +7,6 @@
 pub mod answers;
 pub mod counts;
 pub mod legal;
+pub mod stands;
 pub mod supplied;
 pub mod told;
