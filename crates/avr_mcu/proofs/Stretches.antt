@@ -43,7 +43,7 @@ pub is-next : (flash : List ℕ) (most calm cycles spent n at : ℕ) (core after
     → spent < most → (spent < calm) ⊎ (is_set core.sreg I ≡ false) → n < length notes → at ≡ core.pc
     → over_memory (meaning flash core) memory ≡ Some (served (ran cycles after) left) → is_owing (said_at flash (in_flash core.pc)) ≡ false
     → IsNext flash most calm (record { core = core; memory = memory; addresses = take n notes; spent = spent })
-        (record { core = after; memory = left; addresses = take (n + 1) (slice_set notes n at); spent = spent + cycles })
+    (record { core = after; memory = left; addresses = take (n + 1) (slice_set notes n at); spent = spent + cycles })
 is-next flash most calm cycles spent n at core after memory left notes early quiet small ats comes plain = record {
   cycles = cycles;
   early = early;
@@ -244,7 +244,7 @@ owed-none (suc k) owed some = refl
 
 rushed-is : (s : McuState) (k : ℕ) (core : Core) (memory addresses trail : List ℕ) (spent : ℕ) → 0 < k → k ≤ spent → trail ≡ noted_all s.trail addresses
     → rushed s k (record { core = core; memory = memory; addresses = addresses; spent = spent })
-        ≡ record s { core = core; devices = passed spent (record s.devices { memory = memory }); trail = trail; counted = s.counted + k; owed = false }
+    ≡ record s { core = core; devices = passed spent (record s.devices { memory = memory }); trail = trail; counted = s.counted + k; owed = false }
 unfolding rushed
 rushed-is s k core memory addresses trail spent some least notes =
     let took : (spent == 0) ≡ false = grind (arith, nat_tests) in

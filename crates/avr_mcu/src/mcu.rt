@@ -79,6 +79,7 @@ impl Mcu {
         self.step_once(peer)
     }
 
+    /// The step, with its play alone (apart, since the other clauses of `step` follow from that one).
     #[tactic(auto, unfolding(crate::specs::Step::stepped))]
     fn step_once<B: BusPeer>(&mut self, peer: &mut B) -> McuWent
         requires { self.old.devices.cycles < 2 ^ 63 }
@@ -170,7 +171,10 @@ impl Mcu {
         self.devices.fits();
         let now = self.devices.cycles;
         let until = self.calm_until().min(self.devices.printed_at());
-        let slept = least_of(LOOK_PERIOD - 1 - self.counted, cycles_ahead(now, limit, until));
+        let slept = least_of(
+            LOOK_PERIOD - 1 - self.counted,
+            cycles_ahead(now, limit, until),
+        );
         if slept > 0 {
             self.counted += slept;
             self.devices.pass(u64::from(slept));
@@ -198,7 +202,7 @@ impl Mcu {
         self.finish_entry(vector, went)
     }
 
-    /// What follows once the core has entered an interrupt, or has not.
+    /// What follows once the core has entered an interrupt, or has not (apart, since a `match` on a call's result is proved alone).
     fn finish_entry(&mut self, vector: u8, went: Went) -> McuWent
         requires { self.old.devices.cycles < 2 ^ 63 }
         ensures { gone result self.new ≡ entered vector went self.old }
@@ -235,7 +239,7 @@ impl Mcu {
         self.core.owes(&self.code)
     }
 
-    /// What follows once the core has gone so.
+    /// What follows once the core has gone so (apart, as above).
     fn finish<B: BusPeer>(&mut self, owed: bool, went: Went, peer: &mut B) -> McuWent
         requires { self.old.devices.cycles < 2 ^ 63 }
         ensures { Plays B.did peer.old (finished owed went self.old) (gone result self.new) peer.new }

@@ -52,7 +52,7 @@ impl Trail {
         self.note_each(&addresses[from..]);
     }
 
-    /// Each of these instructions is started.
+    /// Each of these instructions is started (apart: a loop over all that it is given).
     fn note_each(&mut self, addresses: &[u16])
         ensures { self.new ≡ noted_all self.old addresses.now }
     {

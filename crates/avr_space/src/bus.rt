@@ -3,8 +3,6 @@ ghost use Rattle.avr_space.specs.Peer.{AnswerTo};
 ghost use Rattle.board_bus.specs.declared.event.BusEvent.{BusEvent};
 ghost use Rattle.board_bus.specs.declared.event.BusEvent.TheVariants.{Select, Byte, Look};
 
-
-
 /// The bus gives no further answers.
 #[derive(Clone, Copy, Debug, PartialEq, Eq)]
 pub struct BusIsOver;

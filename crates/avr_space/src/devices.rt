@@ -7,14 +7,13 @@ ghost use Rattle.avr_space.specs.Quiet.{IsQuietUntil, PrintsNoneUntil};
 ghost use Rattle.avr_space.specs.Registers.{reset_memory};
 ghost use Rattle.avr_timer.specs.Laws.{IsHeld};
 
-use avr_sheet::with_bit;
-use crate::owner::{Owner, owner_of};
 use crate::bus::BusPeer;
+use crate::owner::{Owner, owner_of};
 use crate::stored::stop_of_stored;
 use avr_core::{DataEnd, Memory};
 use avr_ports::Ports;
 use avr_serial::Serial;
-use avr_sheet::DeviceStop;
+use avr_sheet::{DeviceStop, with_bit};
 use avr_timer::Timers;
 
 /// Data address of SPDR.
@@ -193,7 +192,8 @@ impl Devices {
         self.drive_by(stays, low, ports, peer)
     }
 
-    /// The ports go to another state, whose select line is at this level and stays there or not.
+    /// The ports go to another state, whose select line is at this level and stays there or not (apart, since the definition is by
+    /// these two values).
     fn drive_by<B: BusPeer>(
         &mut self,
         stays: bool,
@@ -370,7 +370,7 @@ fn reset_memory() -> Memory
     memory
 }
 
-/// Whether two levels are one.
+/// Whether two levels are one (apart: the definition's word for `==`).
 fn same(a: bool, b: bool) -> bool
     ensures { result ≡ same a b }
 {

@@ -25,6 +25,7 @@ pub fn owner_of(addr: u16) -> Owner
     owner_by_ranges(addr)
 }
 
+/// The owner by ranges of addresses (apart, since it is compared with the devices' own tables at all 256 addresses).
 #[tactic(auto, unfolding(crate::specs::Owners::owner_by_ranges))]
 fn owner_by_ranges(addr: u16) -> Owner
     ensures { result ≡ owner_by_ranges addr }

@@ -2,8 +2,7 @@
 ghost use Rattle.std.specs.Prelude.{◌≡◌};
 ghost use Rattle.avr_space.specs.Registers.{stop_of_stored, starts_converter, starts_watchdog, uses_eeprom, stop_if};
 
-use avr_sheet::is_set;
-use avr_sheet::DeviceStop;
+use avr_sheet::{DeviceStop, is_set};
 
 const EECR: u16 = 0x3F;
 

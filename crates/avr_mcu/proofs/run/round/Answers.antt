@@ -17,7 +17,7 @@ returns-in-None c =
     subst (λ e. IsTurn c.args.limit c.args.mcu.now c.args.peer.now c.args.serial.now.items e c.turn.new.mcu c.turn.new.peer c.turn.new.serial.items) c.in-None.is c.in_ok-end.ensures in
     if-ok (λ (end : Option RunEnd). IsHurry c.args.limit c.turn.new.mcu c.turn.new.serial.items end c.hurry_on.new.mcu c.hurry_on.new.serial.items)
     (λ (end : Option RunEnd). (o : Outcome) → c.args.peer.now.wanted ≡ None → o ≡ after c.args.peer.now.asked c.args.serial.now.items (run c.args.limit c.args.mcu.now c.args.peer.now.left)
-        → Rounds end c.args.limit c.args.mcu.now c.hurry_on.new.mcu c.turn.new.peer c.hurry_on.new.serial.items o)
+    → Rounds end c.args.limit c.args.mcu.now c.hurry_on.new.mcu c.turn.new.peer c.hurry_on.new.serial.items o)
     c.hurry_on.result
     (λ end hurry o fresh before.
     round-goes c.args.limit c.args.mcu.now c.turn.new.mcu c.hurry_on.new.mcu c.args.peer.now c.turn.new.peer c.args.serial.now.items c.turn.new.serial.items c.hurry_on.new.serial.items
