@@ -4,3 +4,4 @@ mod LegalPlaces
 mod ToldLaws
 pub mod OverLives
 pub mod SentStands
+pub mod MadeKept

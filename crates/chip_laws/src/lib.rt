@@ -6,6 +6,7 @@
 
 pub mod answers;
 pub mod counts;
+pub mod kept;
 pub mod legal;
 pub mod stands;
 pub mod supplied;
