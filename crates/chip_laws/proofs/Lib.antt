@@ -5,3 +5,4 @@ mod ToldLaws
 pub mod OverLives
 pub mod SentStands
 pub mod MadeKept
+pub mod Destination

@@ -4,6 +4,7 @@
 //! `chip_rows`.
 #![tactic(auto)]
 
+pub mod addressed;
 pub mod answers;
 pub mod counts;
 pub mod kept;
