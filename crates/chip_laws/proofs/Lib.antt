@@ -3,3 +3,6 @@ mod IdleAnswer
 mod LegalPlaces
 mod ToldLaws
 pub mod OverLives
+pub mod SentStands
+pub mod MadeKept
+pub mod Destination

@@ -4,8 +4,11 @@
 //! `chip_rows`.
 #![tactic(auto)]
 
+pub mod addressed;
 pub mod answers;
 pub mod counts;
+pub mod kept;
 pub mod legal;
+pub mod stands;
 pub mod supplied;
 pub mod told;
