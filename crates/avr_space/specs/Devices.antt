@@ -4,6 +4,7 @@
 use Rattle.std.specs.Prelude.{ℕ, ◌+◌, ◌^◌, ◌==◌, Bool, not, Option, Some, None, Result, Ok, Err, ◌&&◌, if◌then◌else◌, nat_le, nat_lt, slice_index, slice_set}
 use Rattle.avr_core.specs.Ask.{Give, Call}
 use Rattle.avr_core.specs.Calls.{DataCall, Read, Write, WriteBit, AnswerTo as DataAnswer}
+use Rattle.avr_sheet.specs.Registers.{SPDR}
 use Rattle.avr_sheet.specs.Bits.{with_bit}
 use Rattle.avr_core.specs.declared.bus.DataEnd.{DataEnd}
 use Rattle.avr_core.specs.declared.bus.DataEnd.TheVariants as ends
@@ -87,7 +88,7 @@ serial_row at v ds = handled (or_stop (serial_answer ds.serial at v)) (record ds
 -- A write of SPDR, by what it puts on the line.
 abbrev pub send_row : Result (Option ℕ) DeviceStop → ℕ → Devices → OfBus (Handled Done)
 send_row (Err stop) v ds = Give (handled (Err (ends.Stop stop)) ds)
-send_row (Ok None) v ds = Give (serial_row 0x4E v ds)
+send_row (Ok None) v ds = Give (serial_row SPDR v ds)
 send_row (Ok (Some mosi)) v ds = exchange_row mosi ds
 
 unfoldable pub spdr_row : ℕ → Devices → OfBus (Handled Done)
@@ -115,7 +116,7 @@ stored_row at v ds = stored_by (stop_of_stored at v) at v ds
 abbrev pub write_io_row : Owner → ℕ → ℕ → Devices → OfBus (Handled Done)
 write_io_row owners.Ports at v ds = drive_row (ports_written ds.ports at v) ds
 write_io_row owners.Timers at v ds = Give (timers_row at v ds)
-write_io_row owners.Serial at v ds = if at == 0x4E then spdr_row v ds else Give (serial_row at v ds)
+write_io_row owners.Serial at v ds = if at == SPDR then spdr_row v ds else Give (serial_row at v ds)
 write_io_row owners.Stored at v ds = Give (stored_row at v ds)
 write_io_row owners.Nobody at v ds = Give (handled (Ok tt) ds)
 
