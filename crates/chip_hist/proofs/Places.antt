@@ -1,12 +1,12 @@
 -- What is kept at a place, where a cell or bytes are added.
-use Rattle.std.proofs.Common.{◌≡◌, ◌≢◌, ◌⊎◌, inl, inr, ⊎_elim, ℕ, zero, suc, ◌+◌, ◌-◌, ◌<◌, ◌≤◌, List, [], ◌∷◌, ◌++◌, length, take, drop, Bool, true, false, if◌then◌else◌, ◌==◌, Option, Some, None, IfSome, refl, sym, ap, ap₂, ◌∙◌, arith, length-append, length-drop, reverse, slice_get, All}
+use Rattle.std.proofs.Common.{◌≡◌, ◌≢◌, ◌⊎◌, inl, inr, ⊎_elim, ℕ, zero, suc, ◌-◌, ◌<◌, ◌≤◌, List, [], ◌∷◌, ◌++◌, length, take, drop, Bool, true, false, if◌then◌else◌, ◌==◌, Option, Some, None, IfSome, refl, sym, ap, ap₂, ◌∙◌, arith, length-drop, reverse, slice_get, All}
 use Rattle.std.proofs.lemmas.Bool.Decides.{nat_tests}
-use Rattle.std.proofs.lemmas.Grind.{common_steps}
 use Rattle.std.proofs.lemmas.List.{take-append-le, drop-append-le, length-reverse, reverse-append}
 use Rattle.std.proofs.lemmas.List.Elements.{All-head, All-tail, All-weaker}
+use Rattle.chip_sheet.specs.Past.{Past}
 use Rattle.chip_sheet.specs.declared.event.Entry.{Entry}
 use Rattle.chip_sheet.specs.declared.event.LinkEntry.TheVariants as link
-use Rattle.chip_sheet.specs.declared.event.Entry.TheVariants.{Bus, Link, Rest}
+use Rattle.chip_sheet.specs.declared.event.Entry.TheVariants.{Link}
 use Rattle.chip_hist.specs.declared.kept.Kept.{Kept}
 use Rattle.chip_hist.specs.declared.kept.Kept.TheVariants as kept
 use Rattle.chip_hist.specs.declared.kept.Cell.{Cell}
@@ -103,6 +103,10 @@ below_or_at zero zero lt = inr refl
 below_or_at zero (suc count) lt = inl (omega arith)
 below_or_at (suc place) zero lt = absurd (omega (arith, lt))
 below_or_at (suc place) (suc count) lt = ⊎_elim (λ (less : place < count). inl (omega (arith, less))) (λ (same : place ≡ count). inr (ap suc same)) (below_or_at place count (omega (arith, lt)))
+
+-- a past that has so few events was made of so few
+pub few_made : (past : Past) (bytes : List ℕ) (cells : List Cell) (count most : ℕ) → past_of bytes cells count ≡ past → length past ≤ most → count ≤ most
+few_made past bytes cells count most is few = omega (arith, few, sym (ap length is) ∙ length-past_of bytes cells count)
 
 at_left : {A : Type 0} (l : List A) (x : A) (i : ℕ) → i < length l → slice_get (l ++ x ∷ []) i ≡ slice_get l i
 at_left [] x i lt = absurd (omega (arith, lt))

@@ -1,5 +1,5 @@
 -- A history after an event more.
-use Rattle.std.proofs.Common.{◌≡◌, ◌≢◌, ℕ, zero, suc, ◌+◌, ◌-◌, ◌^◌, ◌<◌, ◌≤◌, List, [], ◌∷◌, ◌++◌, length, take, drop, Option, Some, None, refl, sym, ap, ap₂, ◌∙◌, subst, arith, add-one, length-append, All, get_or}
+use Rattle.std.proofs.Common.{◌≡◌, ℕ, suc, ◌+◌, ◌-◌, ◌<◌, ◌≤◌, List, [], ◌∷◌, ◌++◌, length, take, Option, refl, sym, ap, ap₂, ◌∙◌, subst, arith, length-append}
 use Rattle.std.proofs.lemmas.List.{append-nil}
 use Rattle.std.proofs.Math.Seq.{drop-append_seam, take-length}
 use Rattle.std.proofs.lemmas.List.Elements.{All-weaker, All-push}
@@ -14,8 +14,9 @@ use Rattle.chip_hist.specs.declared.kept.Kept.TheVariants as kept
 use Rattle.chip_hist.specs.declared.kept.Cell.{Cell}
 use Rattle.board_bus.specs.declared.event.BusEvent.{BusEvent}
 use Rattle.board_bus.specs.declared.event.BusAnswer.{BusAnswer}
+use Rattle.chip_hist.specs.declared.limits.TheConstants.{MOST_EVENTS, MARGIN}
 use Rattle.chip_hist.specs.Log.{begun, entry_weight, weight_of, link_data}
-use Rattle.chip_hist.specs.Kept.{piece, entry_kept, kept_link, IsWithin, kept_at, entry_found, past_of, IsSound}
+use Rattle.chip_hist.specs.Kept.{piece, entry_kept, kept_link, IsWithin, entry_found, past_of, IsSound}
 use Rattle.chip_hist.proofs.Places.{kept_at-none, kept_at-last, all_differ, within-more, past_of-more}
 
 -- The fields stand for one entry more.
@@ -23,11 +24,11 @@ pub record Pushed (bytes : List ℕ) (cells : List Cell) (count weight limit : �
   pub sound : IsSound bytes cells count weight limit
   pub is : past_of bytes cells count ≡ entry ∷ past
 
-pub rested : (bytes : List ℕ) (cells : List Cell) (count count' weight limit : ℕ) → IsSound bytes cells count weight limit → count ≤ 2 ^ 59 + 64 → count' ≡ count + 1
+pub rested : (bytes : List ℕ) (cells : List Cell) (count count' weight limit : ℕ) → IsSound bytes cells count weight limit → count ≤ MOST_EVENTS + MARGIN → count' ≡ count + 1
     → Pushed bytes cells count' weight limit Rest (past_of bytes cells count)
 rested bytes cells count count' weight limit sound few next =
     let is : past_of bytes cells (suc count) ≡ Rest ∷ past_of bytes cells count =
-      ap (λ (r : Option Kept). entry_found bytes r ∷ past_of bytes cells count) (kept_at-none cells count (all_differ cells count sound.below)) in
+    ap (λ (r : Option Kept). entry_found bytes r ∷ past_of bytes cells count) (kept_at-none cells count (all_differ cells count sound.below)) in
     let next_weight : weight_of (past_of bytes cells (suc count)) ≡ 0 + weight_of (past_of bytes cells count) = ap weight_of is in
     let heavier : weight ≡ weight_of (past_of bytes cells (suc count)) = omega (arith, sound.weighed, next_weight) in
     let over : suc count ≡ count' = omega (arith, next) in
@@ -44,15 +45,15 @@ rested bytes cells count count' weight limit sound few next =
     })
 
 pub pushed : (bytes more : List ℕ) (cells : List Cell) (count weight limit : ℕ) (what : Kept) (entry : Entry)
-    → IsSound bytes cells count weight limit → count ≤ 2 ^ 59 + 64
+    → IsSound bytes cells count weight limit → count ≤ MOST_EVENTS + MARGIN
     → IsWithin (length (bytes ++ more)) what → entry_kept (bytes ++ more) what ≡ entry
     → Pushed (bytes ++ more) (cells ++ record { place = count; kept = what } ∷ []) (suc count) (entry_weight entry + weight) limit entry (past_of bytes cells count)
 pushed bytes more cells count weight limit what entry sound few within stands =
     let cell : Cell = record { place = count; kept = what } in
     let is : past_of (bytes ++ more) (cells ++ cell ∷ []) (suc count) ≡ entry ∷ past_of bytes cells count =
-      ap₂ (λ (e : Entry) (l : List Entry). e ∷ l)
-      (ap (entry_found (bytes ++ more)) (kept_at-last cells cell count refl (all_differ cells count sound.below)) ∙ stands)
-      (past_of-more bytes more cells cell count (omega arith) sound.within) in
+    ap₂ (λ (e : Entry) (l : List Entry). e ∷ l)
+    (ap (entry_found (bytes ++ more)) (kept_at-last cells cell count refl (all_differ cells count sound.below)) ∙ stands)
+    (past_of-more bytes more cells cell count (omega arith) sound.within) in
     let longer : length bytes ≤ length (bytes ++ more) = omega (arith, length-append bytes more) in
     record {
       sound = record {
@@ -68,7 +69,7 @@ pushed bytes more cells count weight limit what entry sound few within stands =
 
 -- the same, as the calls that make the fields say them
 pub pushed_by : (bytes more bytes' : List ℕ) (cells cells' : List Cell) (count count' weight weight' limit : ℕ) (what : Kept) (entry : Entry)
-    → IsSound bytes cells count weight limit → count ≤ 2 ^ 59 + 64
+    → IsSound bytes cells count weight limit → count ≤ MOST_EVENTS + MARGIN
     → IsWithin (length (bytes ++ more)) what → entry_kept (bytes ++ more) what ≡ entry
     → bytes' ≡ bytes ++ more → cells' ≡ cells ++ record { place = count; kept = what } ∷ [] → count' ≡ count + 1 → weight' ≡ entry_weight entry + weight
     → Pushed bytes' cells' count' weight' limit entry (past_of bytes cells count)
@@ -115,20 +116,20 @@ link_within bytes n link.Dropped = tt
 
 -- after an event of the bus
 pub bus_pushed : (bytes : List ℕ) (cells cells' : List Cell) (count weight limit : ℕ) (event : BusEvent) (answer : BusAnswer)
-    → IsSound bytes cells count weight limit → count ≤ 2 ^ 59 + 64 → cells' ≡ cells ++ record { place = count; kept = kept.Bus event answer } ∷ []
+    → IsSound bytes cells count weight limit → count ≤ MOST_EVENTS + MARGIN → cells' ≡ cells ++ record { place = count; kept = kept.Bus event answer } ∷ []
     → Pushed bytes cells' (count + 1) (weight + 1) limit (Bus event answer) (past_of bytes cells count)
 bus_pushed bytes cells cells' count weight limit event answer sound few put =
     pushed_by bytes [] bytes cells cells' count (count + 1) weight (weight + 1) limit (kept.Bus event answer) (Bus event answer) sound few tt refl (sym (append-nil bytes)) put refl (omega arith)
 
 -- after an event of a link
 pub link_pushed : (bytes more bytes' : List ℕ) (cells cells' : List Cell) (count weight limit n from units : ℕ) (what : LinkEntry) (stored : Kept)
-    → IsSound bytes cells count weight limit → count ≤ 2 ^ 59 + 64
+    → IsSound bytes cells count weight limit → count ≤ MOST_EVENTS + MARGIN
     → more ≡ link_data what → bytes' ≡ bytes ++ more → from ≡ length bytes → stored ≡ kept_link n what from (from + length more)
     → cells' ≡ cells ++ record { place = count; kept = stored } ∷ [] → units ≡ begun (length more)
     → Pushed bytes' cells' (count + 1) (weight + (1 + units)) limit (Link n what) (past_of bytes cells count)
 link_pushed bytes more bytes' cells cells' count weight limit n from units what stored sound few its_data put_bytes at is_stored put weighs =
     let where_it_stands : kept_link n what (length bytes) (length bytes + length (link_data what)) ≡ stored =
-      ap₂ (λ (f : ℕ) (d : List ℕ). kept_link n what f (f + length d)) (sym at) (sym its_data) ∙ sym is_stored in
+    ap₂ (λ (f : ℕ) (d : List ℕ). kept_link n what f (f + length d)) (sym at) (sym its_data) ∙ sym is_stored in
     let within : IsWithin (length (bytes ++ link_data what)) stored = subst (λ (k : Kept). IsWithin (length (bytes ++ link_data what)) k) where_it_stands (link_within bytes n what) in
     let stands : entry_kept (bytes ++ link_data what) stored ≡ Link n what = ap (λ (k : Kept). entry_kept (bytes ++ link_data what) k) (sym where_it_stands) ∙ link_stands bytes n what in
     let units_are : units ≡ begun (length (link_data what)) = weighs ∙ ap (λ (d : List ℕ). begun (length d)) its_data in

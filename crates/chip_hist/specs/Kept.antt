@@ -1,5 +1,5 @@
 -- How cells and bytes stand for what happened.
-use Rattle.std.specs.Prelude.{◌≡◌, ℕ, zero, suc, ◌+◌, ◌-◌, ◌^◌, ◌<◌, ◌≤◌, List, [], ◌∷◌, length, take, drop, All, AllPairs, Option, Some, None, if◌then◌else◌, ◌==◌}
+use Rattle.std.specs.Prelude.{◌≡◌, ℕ, zero, suc, ◌+◌, ◌-◌, ◌<◌, ◌≤◌, List, [], ◌∷◌, length, take, drop, All, AllPairs, Option, Some, None, if◌then◌else◌, ◌==◌}
 use Rattle.chip_sheet.specs.declared.event.LinkEntry.{LinkEntry}
 use Rattle.chip_sheet.specs.declared.event.LinkEntry.TheVariants.{Linked, Accepted, Refused, TimedOut, Took, Got, Datagram, Ended, Shut, Failed, Dropped}
 use Rattle.chip_sheet.specs.declared.event.Entry.{Entry}
@@ -8,6 +8,7 @@ use Rattle.chip_sheet.specs.Past.{Past}
 use Rattle.chip_hist.specs.declared.kept.Kept.{Kept}
 use Rattle.chip_hist.specs.declared.kept.Kept.TheVariants as kept
 use Rattle.chip_hist.specs.declared.kept.Cell.{Cell}
+use Rattle.chip_hist.specs.declared.limits.TheConstants.{HIGHEST_LIMIT, MOST_EVENTS, MARGIN}
 use Rattle.chip_hist.specs.Log.{weight_of}
 
 -- The bytes from one place to another.
@@ -66,8 +67,8 @@ past_of bytes cells (suc count) = entry_found bytes (kept_at cells count) ∷ pa
 
 -- What always holds of a history's fields.
 pub record IsSound (bytes : List ℕ) (cells : List Cell) (count weight limit : ℕ) : Type 0 where
-  pub limited : (1 ≤ limit) × (limit ≤ 67108864)
-  pub short : count ≤ 2 ^ 59 + 65
+  pub limited : (1 ≤ limit) × (limit ≤ HIGHEST_LIMIT)
+  pub short : count ≤ MOST_EVENTS + MARGIN + 1
   pub rising : AllPairs (λ (a b : Cell). a.place < b.place) cells
   pub below : All (λ (cell : Cell). cell.place < count) cells
   pub within : All (λ (cell : Cell). IsWithin (length bytes) cell.kept) cells

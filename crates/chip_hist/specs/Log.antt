@@ -1,10 +1,11 @@
 -- A history as contracts see it, and what it weighs.
-use Rattle.std.specs.Prelude.{ℕ, ◌+◌, ◌/◌, ◌^◌, List, [], ◌∷◌, length, Bool, ◌||◌, nat_le}
+use Rattle.std.specs.Prelude.{ℕ, ◌+◌, ◌-◌, ◌/◌, List, [], ◌∷◌, length, Bool, ◌||◌, nat_le}
 use Rattle.chip_sheet.specs.declared.event.LinkEntry.{LinkEntry}
 use Rattle.chip_sheet.specs.declared.event.LinkEntry.TheVariants.{Got, Datagram}
 use Rattle.chip_sheet.specs.declared.event.Entry.{Entry}
 use Rattle.chip_sheet.specs.declared.event.Entry.TheVariants.{Link, Rest}
 use Rattle.chip_sheet.specs.Past.{Past}
+use Rattle.chip_hist.specs.declared.limits.TheConstants.{MOST_EVENTS, BYTES_A_UNIT}
 
 pub record Log : Type 0 where
   -- what happened, the newest first
@@ -29,7 +30,7 @@ entry_data entry = []
 
 -- How many pieces of 32 bytes so many bytes begin.
 abbrev pub begun : ℕ → ℕ
-begun count = (count + 31) / 32
+begun count = (count + (BYTES_A_UNIT - 1)) / BYTES_A_UNIT
 
 -- An entry weighs 1, and 1 more for each 32 bytes of data begun; a turn in which nothing happened weighs nothing.
 abbrev pub entry_weight : Entry → ℕ
@@ -43,4 +44,4 @@ weight_of (entry ∷ past) = entry_weight entry + weight_of past
 
 -- A history takes no more events of a run.
 abbrev pub is_full : Log → Bool
-is_full log = nat_le log.limit (weight_of log.past) || nat_le (2 ^ 59) (length log.past)
+is_full log = nat_le log.limit (weight_of log.past) || nat_le MOST_EVENTS (length log.past)

@@ -1,21 +1,15 @@
 //! A history: the list of what happened, which only grows.
-ghost use Rattle.std.specs.Prelude.{◌≡◌, ◌+◌, ◌*◌, ◌^◌, ◌<◌, ◌≤◌, [], ◌∷◌, length, reverse, OnOk, slice_get, option_map, vec_len, vec_capacity, ◌++◌};
+ghost use Rattle.std.specs.Prelude.{◌≡◌, ◌+◌, ◌*◌, ◌^◌, ◌<◌, ◌≤◌, [], ◌∷◌, length, reverse, OnOk, slice_get, option_map, vec_len, vec_capacity, ◌++◌, false};
 ghost use Rattle.chip_sheet.specs.Past.{entry_of};
+ghost use Rattle.chip_sheet.specs.declared.event.Entry.TheVariants.{Rest};
+ghost use Rattle.chip_hist.specs.declared.limits.TheConstants.{HIGHEST_LIMIT, MOST_EVENTS, MARGIN, BYTES_A_UNIT};
 ghost use Rattle.chip_hist.specs.Log.{begun, entry_data, is_full, weight_of};
 
 use crate::kept::{Cell, Kept, data_of, event_of, find, link_kept};
+use crate::limits::{BYTES_A_UNIT, MOST_EVENTS};
 use chip_sheet::event::Event;
 use std::alloc::{AllocError, Global};
 use std::marker::Model;
-
-/// The highest limit of a history, in units of weight.
-pub const HIGHEST_LIMIT: u64 = 67_108_864;
-
-/// A history of so many events counts as full whatever it weighs.
-pub const MOST_EVENTS: u64 = 1 << 59;
-
-/// How many bytes of data weigh as much as an event.
-pub const BYTES_A_UNIT: u64 = 32;
 
 /// Adds bytes for which there is room (apart, since what a `Result` says is lost behind `unwrap`).
 #[inline]
@@ -33,7 +27,7 @@ fn append(bytes: &mut Vec<u8>, more: &[u8])
 fn units(count: usize) -> u64
     ensures { result ≡ begun count }
 {
-    count.div_ceil(32) as u64
+    (count as u64).div_ceil(BYTES_A_UNIT)
 }
 
 /// What happened on a chip's bus and links, in order.
@@ -68,9 +62,9 @@ impl Model for History {
 }
 
 impl History {
-    /// An empty history, which takes no memory. `limit` is in units of weight, 1 to [`HIGHEST_LIMIT`].
+    /// An empty history, which takes no memory. `limit` is in units of weight, 1 to [`HIGHEST_LIMIT`](crate::limits::HIGHEST_LIMIT).
     pub fn new(alloc: Global, limit: u64) -> History
-        requires { (1 ≤ limit) × (limit ≤ 67108864) }
+        requires { (1 ≤ limit) × (limit ≤ HIGHEST_LIMIT) }
         ensures past { result.past ≡ [] }
         ensures limit { result.limit ≡ limit }
     {
@@ -115,12 +109,15 @@ impl History {
     pub fn push(&mut self, event: Event<'_>)
         requires room { 0 < self.old.spare_events }
         requires data_room { length (entry_data (entry_of event)) ≤ self.old.spare_bytes }
-        requires light { weight_of self.old.past ≤ self.old.limit + 64 }
-        requires short { length self.old.past ≤ 2 ^ 59 + 64 }
+        requires light { weight_of self.old.past ≤ self.old.limit + MARGIN }
+        requires short { length self.old.past ≤ MOST_EVENTS + MARGIN }
         ensures past { self.new.past ≡ entry_of event.entry ∷ self.old.past }
         ensures events { self.old.spare_events ≤ self.new.spare_events + 1 }
         ensures bytes { self.old.spare_bytes
-            ≤ self.new.spare_bytes + 32 * begun (length (entry_data (entry_of event.entry))) }
+            ≤ self.new.spare_bytes + BYTES_A_UNIT * begun (length (entry_data (entry_of event.entry))) }
+        // A turn in which nothing happened takes no room.
+        ensures idle { entry_of event.entry ≡ Rest → (self.new.spare_events ≡ self.old.spare_events)
+            × (self.new.spare_bytes ≡ self.old.spare_bytes) }
         ensures limit { self.new.limit ≡ self.old.limit }
     {
         match event {
@@ -133,19 +130,18 @@ impl History {
                 self.len += 1;
             }
             Event::Link(sn, what) => {
+                let place = self.len;
                 let data = data_of(what);
                 let from = self.bytes.len();
                 append(&mut self.bytes, data);
                 self.cells.push_reserved(Cell {
-                    place: self.len,
+                    place,
                     kept: link_kept(sn, what, from, from + data.len()),
                 });
                 self.weight += 1 + units(data.len());
                 self.len += 1;
             }
-            Event::Rest => {
-                self.len += 1;
-            }
+            Event::Rest => self.len += 1,
         }
     }
 
@@ -164,17 +160,19 @@ impl History {
         self.weight
     }
 
-    /// The weight that it is meant to hold, 1 to [`HIGHEST_LIMIT`].
+    /// The weight that it is meant to hold, 1 to [`HIGHEST_LIMIT`](crate::limits::HIGHEST_LIMIT).
     pub fn limit(&self) -> u64
         ensures value { result ≡ self.now.limit }
-        ensures range { (1 ≤ self.now.limit) × (self.now.limit ≤ 67108864) }
+        ensures range { (1 ≤ self.now.limit) × (self.now.limit ≤ HIGHEST_LIMIT) }
     {
         self.limit
     }
 
     /// Whether its weight has reached its limit, or it has [`MOST_EVENTS`] events.
     pub fn is_full(&self) -> bool
-        ensures { result ≡ is_full self.now }
+        ensures value { result ≡ is_full self.now }
+        ensures room { result ≡ false → (weight_of self.now.past < self.now.limit)
+            × (length self.now.past < MOST_EVENTS) }
     {
         self.limit <= self.weight || MOST_EVENTS <= self.len
     }

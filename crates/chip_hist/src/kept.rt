@@ -3,9 +3,13 @@ ghost use Rattle.std.specs.Prelude.{◌≡◌, ◌<◌, length};
 ghost use Rattle.std.specs.List.{AllPairs};
 ghost use Rattle.chip_sheet.specs.Past.{entry_of, link_entry};
 ghost use Rattle.chip_hist.specs.Kept.{entry_kept, kept_at, kept_link, IsWithin};
-ghost use Rattle.chip_hist.specs.Log.{link_data};
+ghost use Rattle.chip_hist.specs.Log.{entry_data, link_data};
 
 use chip_sheet::event::{Addr, BusAnswer, BusEvent, Event, LinkWhat};
+use std::mem::size_of;
+
+// What a cell takes, which the weight of an event stands for.
+const _: () = prove!(size_of::<Cell>() == 32);
 
 /// An event without its data, in 24 bytes: one level, since each level of enums would take 8 bytes more. The first number of what
 /// a link did is its socket; the last two are the places between which the data stand.
@@ -54,6 +58,16 @@ pub fn data_of<'a>(what: LinkWhat<'a>) -> &'a [u8]
         LinkWhat::Got(bytes) => bytes,
         LinkWhat::Datagram(_, bytes) => bytes,
         _ => &[],
+    }
+}
+
+/// How many bytes of data an event has.
+pub fn data_len(event: Event<'_>) -> u64
+    ensures { result ≡ length (entry_data (entry_of event.entry)) }
+{
+    match event {
+        Event::Link(_, what) => data_of(what).len() as u64,
+        _ => 0,
     }
 }
 

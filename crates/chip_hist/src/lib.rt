@@ -6,5 +6,9 @@
 
 pub mod history;
 mod kept;
+pub mod limits;
+#[cfg(test)]
+mod tests;
 
 pub use history::History;
+pub use kept::data_len;

@@ -10,5 +10,5 @@ returns-clause-value c =
 pub returns-clause-below : goal.returns-clause-below
 returns-clause-below c =
     let size : c.self.inside.len ≡ length c.args.self.now.past =
-      sym (length-past_of c.self.inside.bytes.items c.self.inside.cells.items c.self.inside.len) ∙ ap (λ (l : Log). length l.past) c.self.view_is in
+    sym (length-past_of c.self.inside.bytes.items c.self.inside.cells.items c.self.inside.len) ∙ ap (λ (l : Log). length l.past) c.self.view_is in
     omega (arith, size, c.self.invariant.short)
