@@ -1,5 +1,5 @@
 //! A history: the list of what happened, which only grows.
-ghost use Rattle.std.specs.Prelude.{◌≡◌, ◌+◌, ◌*◌, ◌^◌, ◌<◌, ◌≤◌, [], ◌∷◌, length, reverse, OnOk, slice_get, option_map, vec_len, vec_capacity, ◌++◌, false};
+ghost use Rattle.std.specs.Prelude.{◌≡◌, ◌+◌, ◌*◌, ◌^◌, ◌<◌, ◌≤◌, [], ◌∷◌, length, reverse, OnOk, IsOk, slice_get, option_map, vec_len, vec_capacity, ◌++◌, false};
 ghost use Rattle.chip_sheet.specs.Past.{entry_of};
 ghost use Rattle.chip_sheet.specs.declared.event.Entry.TheVariants.{Rest};
 ghost use Rattle.chip_hist.specs.declared.limits.TheConstants.{HIGHEST_LIMIT, MOST_EVENTS, MARGIN, BYTES_A_UNIT};
@@ -11,7 +11,7 @@ use chip_sheet::event::Event;
 use std::alloc::{AllocError, Global};
 use std::marker::Model;
 
-/// Adds bytes for which there is room (apart, since what a `Result` says is lost behind `unwrap`).
+/// Adds bytes for which there is room (apart, so that `push` reads as one fact what is there after the `unwrap`).
 #[inline]
 fn append(bytes: &mut Vec<u8>, more: &[u8])
     requires { vec_len bytes.old + length more.now ≤ vec_capacity bytes.old }
@@ -85,6 +85,8 @@ impl History {
     pub fn reserve(&mut self, events: u64, bytes: u64) -> Result<(), AllocError>
         ensures events { OnOk result (events ≤ self.new.spare_events) }
         ensures bytes { OnOk result (bytes ≤ self.new.spare_bytes) }
+        // It asks for memory only where the room is missing.
+        ensures enough { (events ≤ self.old.spare_events) × (bytes ≤ self.old.spare_bytes) → IsOk result }
         ensures past { self.new.past ≡ self.old.past }
         ensures limit { self.new.limit ≡ self.old.limit }
         ensures no_fewer_events { self.old.spare_events ≤ self.new.spare_events }

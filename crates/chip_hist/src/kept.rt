@@ -51,12 +51,11 @@ pub struct Cell {
 }
 
 /// The bytes that what a link did came with.
-pub fn data_of<'a>(what: LinkWhat<'a>) -> &'a [u8]
+pub fn data_of(what: LinkWhat<'_>) -> &[u8]
     ensures { result.now ≡ link_data (link_entry what.entry) }
 {
     match what {
-        LinkWhat::Got(bytes) => bytes,
-        LinkWhat::Datagram(_, bytes) => bytes,
+        LinkWhat::Got(bytes) | LinkWhat::Datagram(_, bytes) => bytes,
         _ => &[],
     }
 }
