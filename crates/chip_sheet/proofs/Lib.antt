@@ -10,3 +10,11 @@ pub mod SizeLaws
 pub mod LifeSteps
 pub mod FitLaws
 pub mod ReadBack
+pub mod Quiet
+pub mod BitSums
+pub mod InterruptBits
+pub mod AnswerLaws
+pub mod ResetRestores
+pub mod MadeLaws
+pub mod LivesLaws
+pub mod SendLaws

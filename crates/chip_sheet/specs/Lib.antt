@@ -20,6 +20,7 @@ pub mod SocketBlock
 pub mod Answers
 pub mod LinkCalls
 pub mod LinkAnswers
+pub mod Quiet
 pub mod Stops
 pub mod Legal
 pub mod Replay

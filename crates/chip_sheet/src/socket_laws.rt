@@ -1,23 +1,43 @@
 //! Laws of the sockets' definitions, each the contract of an empty function.
-ghost use Rattle.std.specs.Prelude.{◌≡◌, ◌≤◌, ◌<◌, ◌↔◌, ℕ, ◌+◌, ◌*◌, ◌%◌, List, ◌∷◌, ◌++◌, length, slice_get, slice_index, Some, true, false};
+ghost use Rattle.std.specs.Prelude.{◌≡◌, ◌≤◌, ◌<◌, ◌↔◌, ◌==◌, not, bit_and, ℕ, ◌+◌, ◌-◌, ◌*◌, ◌%◌, ◌^◌, ◌⊎◌, List, [], ◌∷◌, ◌++◌, length, take, slice_get, slice_index, Some, None, true, false, if◌then◌else◌};
 ghost use Rattle.std.specs.Option.{IsSome};
+ghost use Rattle.board_bus.specs.declared.event.BusEvent.{BusEvent};
 ghost use Rattle.board_bus.specs.declared.event.BusEvent.TheVariants.{Byte};
+ghost use Rattle.board_bus.specs.declared.event.BusAnswer.{BusAnswer};
+ghost use Rattle.chip_sheet.specs.declared.event.Entry.TheVariants.{Bus};
 ghost use Rattle.board_bus.specs.declared.event.BusAnswer.TheVariants.{Out};
-ghost use Rattle.chip_sheet.specs.declared.phase.Access.TheVariants.{NoAccess};
-ghost use Rattle.chip_sheet.specs.declared.socket.Status.TheVariants.{Closed};
+ghost use Rattle.chip_sheet.specs.declared.phase.Access.TheVariants.{NoAccess, Write};
+ghost use Rattle.chip_sheet.specs.declared.socket.Status.TheVariants.{Closed, Established, FinWait, CloseWait, LastAck, Udp};
 ghost use Rattle.chip_sheet.specs.declared.socket.Cause.TheVariants.{Send};
 ghost use Rattle.chip_sheet.specs.declared.event.Entry.{Entry};
 ghost use Rattle.chip_sheet.specs.declared.event.LinkEntry.{LinkEntry};
 ghost use Rattle.chip_sheet.specs.Past.{Past, GoesOn};
 ghost use Rattle.chip_sheet.specs.Frames.{access, access_of, is_low};
 ghost use Rattle.chip_sheet.specs.Registers.{is_reset};
-ghost use Rattle.chip_sheet.specs.Life.{cause, status, lives, is_closed};
+ghost use Rattle.chip_sheet.specs.Life.{cause, status, lives, old, is_closed, is_udp};
 ghost use Rattle.chip_sheet.specs.Sizes.{is_size, tx_size, rx_size};
-ghost use Rattle.chip_sheet.specs.Streams.{Starts, sent, taken, got, released, tx_byte, tx_base, rx_base, is_open};
-ghost use Rattle.chip_sheet.specs.Windows.{flight, unread, rx_byte, in_flight_at};
-ghost use Rattle.chip_sheet.specs.Answers.{answer};
-ghost use Rattle.chip_sheet.specs.Legal.{Legal};
+ghost use Rattle.chip_sheet.specs.Streams.{Starts, sent, sends, range, range_length, taken, got, released, tx_byte, tx_base, rx_base, is_open, is_made};
+ghost use Rattle.chip_sheet.specs.Windows.{flight, unread, tx_free, rx_byte, in_flight_at, offered_length, offered, room_length};
+ghost use Rattle.chip_sheet.specs.Answers.{answer, byte_at};
+ghost use Rattle.chip_sheet.specs.Legal.{Legal, FitsAfter};
 ghost use Rattle.chip_sheet.specs.Replay.{Step, Happens, AllTaken, told};
+ghost use Rattle.chip_sheet.specs.Bits.{has_bit};
+ghost use Rattle.chip_sheet.specs.Interrupts.{bit_value, raised, interrupt_register, mask, asks, sir_register, enabled_sockets, interrupt_low};
+ghost use Rattle.chip_sheet.specs.declared.socket.Interrupt.{Interrupt};
+ghost use Rattle.chip_sheet.specs.declared.socket.Due.{Due};
+ghost use Rattle.chip_sheet.specs.declared.block.Block.{Block};
+ghost use Rattle.chip_sheet.specs.declared.block.Block.TheVariants.{Registers, TxBuffer, RxBuffer};
+ghost use Rattle.chip_sheet.specs.Blocks.{block_of, registers_of, tx_buffer_of, rx_buffer_of};
+ghost use Rattle.chip_sheet.specs.LinkCalls.{outgoing, incoming, connection, kept_address, kept_port};
+ghost use Rattle.chip_sheet.specs.LinkAnswers.{LinkAnswer, entry_by, may_answer};
+ghost use Rattle.chip_sheet.specs.Sending.{fresh};
+ghost use Rattle.chip_sheet.specs.Receiving as receiving_of;
+ghost use Rattle.chip_sheet.specs.Buffers.{sending, receiving};
+ghost use Rattle.chip_sheet.specs.Quiet.{LeavesLife, Untouched, LeavesAll, LeavesOther};
+ghost use Rattle.chip_sheet.specs.declared.socket.Cause.TheVariants.{Nothing, Dropped};
+ghost use Rattle.chip_sheet.specs.declared.socket.Due.TheVariants as due;
+ghost use Rattle.chip_sheet.specs.Names.{sn_cr, send_command};
+ghost use Rattle.chip_sheet.specs.Stops.{stop};
 
 /// What was sent in a life of a socket stays: at each later moment it is a front of what is sent then.
 pub fn sent_stays()
@@ -88,4 +108,86 @@ pub fn received_reads_back()
         → released starts past n (lives past n) ≤ q → q < length (got starts past n (lives past n))
         → addr % rx_size past n ≡ (rx_base starts past n (lives past n) + q) % rx_size past n
         → rx_byte starts past n addr ≡ slice_index (got starts past n (lives past n)) q }
+{}
+
+/// What is nothing for a socket leaves its life, lists, windows and what it keeps for the link; and what does not touch the socket,
+/// by no command, event, write or change of a size, leaves all of it.
+pub fn others_stay()
+    ensures life { (starts : Starts) (past : Past) (entry : Entry) (n : ℕ) → cause past n entry ≡ Nothing → LeavesLife starts past entry n }
+    ensures all { (starts : Starts) (past : Past) (entry : Entry) (n : ℕ) → Untouched past entry n → LeavesAll starts past entry n }
+{}
+
+/// The interrupt registers as bits: a bit of Sn_IR reads 1 exactly where it is raised; a socket asks exactly where `Sn_IR & Sn_IMR` is
+/// not 0; bit n of SIR reads 1 exactly where socket n asks; INTn is low exactly where `SIR & SIMR` is not 0.
+pub fn interrupts_as_bits()
+    ensures bit { (starts : Starts) (past : Past) (n : ℕ) (bit : Interrupt) → has_bit (interrupt_register starts past n) (bit_value bit) ≡ raised starts past n bit }
+    ensures asks { (starts : Starts) (past : Past) (n : ℕ) → asks starts past n ≡ not (bit_and (interrupt_register starts past n) (mask past n) == 0) }
+    ensures sir { (starts : Starts) (past : Past) (n : ℕ) → n < 8 → has_bit (sir_register starts past) (2 ^ n) ≡ asks starts past n }
+    ensures low { (starts : Starts) (past : Past) → interrupt_low starts past ≡ not (bit_and (sir_register starts past) (enabled_sockets past) == 0) }
+{}
+
+/// What a link may answer to a call that is due, within what is offered to it or may be read at once, adds an entry that fits; and
+/// what it took of the offered bytes goes on behind what it took before.
+pub fn answers_fit()
+    ensures fits { (starts : Starts) (past : Past) (n : ℕ) (call : Due) (answer : LinkAnswer) → n < 8 → (outgoing starts past n ≡ call) ⊎ (incoming starts past n ≡ call)
+        → may_answer call (offered_length starts past n) (room_length starts past n) answer ≡ true → FitsAfter starts past (entry_by n (flight starts past n) call answer) }
+    ensures given { (starts : Starts) (past : Past) (n k : ℕ) → is_open (status past n) ≡ true → k ≤ offered_length starts past n
+        → take (taken past n (lives past n) + k) (sent starts past n (lives past n)) ≡ take (taken past n (lives past n)) (sent starts past n (lives past n)) ++ take k (offered starts past n) }
+{}
+
+/// After a reset each address of each block reads what it reads after power-on, INTn is high, and both directions of each socket are
+/// fresh, with buffers of 2 KB.
+pub fn reset_restores()
+    ensures reads { (starts : Starts) (past : Past) (entry : Entry) (block : Block) (at : ℕ) → is_reset (access_of past entry) ≡ true → byte_at starts (entry ∷ past) block at ≡ byte_at starts [] block at }
+    ensures line { (starts : Starts) (past : Past) (entry : Entry) → is_reset (access_of past entry) ≡ true → interrupt_low starts (entry ∷ past) ≡ false }
+    ensures sending { (starts : Starts) (past : Past) (entry : Entry) (n : ℕ) → is_reset (access_of past entry) ≡ true → sending starts (entry ∷ past) n ≡ fresh 2048 }
+    ensures receiving { (starts : Starts) (past : Past) (entry : Entry) (n : ℕ) → is_reset (access_of past entry) ≡ true → receiving starts (entry ∷ past) n ≡ receiving_of.fresh 2048 }
+{}
+
+/// The select bits 4n + 1, 4n + 2 and 4n + 3 are the registers, the TX buffer and the RX buffer of socket n.
+pub fn blocks_of_a_socket()
+    ensures registers { (n : ℕ) → block_of (registers_of n) ≡ Registers n }
+    ensures tx { (n : ℕ) → block_of (tx_buffer_of n) ≡ TxBuffer n }
+    ensures rx { (n : ℕ) → block_of (rx_buffer_of n) ≡ RxBuffer n }
+{}
+
+/// An open socket has a made connection, but in UDP, where in a legal history there is none.
+pub fn open_is_made()
+    ensures tcp { (past : Past) (n : ℕ) → is_open (status past n) ≡ true → is_udp (status past n) ≡ false → is_made past n (lives past n) ≡ true }
+    ensures udp { (starts : Starts) (past : Past) (n : ℕ) → Legal starts past → is_udp (status past n) ≡ true → is_made past n (lives past n) ≡ false }
+{}
+
+/// The lives of a socket: each entry begins at most one; the one that the link is still to forget is closed, an earlier one
+/// or the last, and stays so until it is dropped; and an entry changes the lists and counts of the present life alone.
+pub fn lives_of_a_socket()
+    ensures few { (past : Past) (n : ℕ) → lives past n ≤ length past }
+    ensures old { (past : Past) (n life : ℕ) → old past n ≡ Some life → (life ≤ lives past n) × (life ≡ lives past n → is_closed (status past n) ≡ true) }
+    ensures stays { (past : Past) (entry : Entry) (n life : ℕ) → (cause past n entry ≡ Dropped → ⊥) → old past n ≡ Some life → old (entry ∷ past) n ≡ Some life }
+    ensures others { (starts : Starts) (past : Past) (entry : Entry) (n life : ℕ) → (lives past n ≡ life → ⊥) → LeavesOther starts past entry n life }
+{}
+
+/// A SEND that fits goes through, in UDP where no datagram is in flight, and adds exactly its range to what was sent.
+pub fn send_that_fits()
+    ensures goes { (starts : Starts) (past : Past) (e : BusEvent) (n : ℕ) → access past e ≡ Write (registers_of n) sn_cr send_command → sends (status past n) ≡ true
+        → (is_udp (status past n) ≡ true → flight starts past n ≡ 0) → range_length starts past n (length (sent starts past n (lives past n))) ≤ tx_free starts past n
+        → stop starts past e ≡ None }
+    ensures adds { (starts : Starts) (past : Past) (e : BusEvent) (a : BusAnswer) (n : ℕ) → access past e ≡ Write (registers_of n) sn_cr send_command → sends (status past n) ≡ true
+        → sent starts (Bus e a ∷ past) n (lives past n) ≡ sent starts past n (lives past n) ++ range starts past n (length (sent starts past n (lives past n))) }
+{}
+
+/// In each status of a connection, after DISCON and after the peer's end too, and in UDP, what was sent and not taken is in flight, and
+/// what was received and not released is unread. While no old life is there, what is in flight is due.
+pub fn windows_of_a_connection()
+    ensures flight { (starts : Starts) (past : Past) (n : ℕ) → (status past n ≡ Established) ⊎ ((status past n ≡ FinWait) ⊎ ((status past n ≡ CloseWait) ⊎ ((status past n ≡ LastAck) ⊎ (status past n ≡ Udp))))
+        → flight starts past n ≡ length (sent starts past n (lives past n)) - taken past n (lives past n) }
+    ensures unread { (starts : Starts) (past : Past) (n : ℕ) → (status past n ≡ Established) ⊎ ((status past n ≡ FinWait) ⊎ ((status past n ≡ CloseWait) ⊎ ((status past n ≡ LastAck) ⊎ (status past n ≡ Udp))))
+        → unread starts past n ≡ length (got starts past n (lives past n)) - released starts past n (lives past n) }
+    ensures due { (starts : Starts) (past : Past) (n : ℕ) → old past n ≡ None → 0 < flight starts past n
+        → (outgoing starts past n ≡ due.Write (connection n (lives past n))) ⊎ (outgoing starts past n ≡ due.SendTo (connection n (lives past n)) (kept_port past n) (kept_address past n)) }
+{}
+
+/// A byte that is written to a TX buffer is read at each address of its place, and no other byte of the buffer changes.
+pub fn written_reads_back()
+    ensures { (past : Past) (entry : Entry) (n addr v at : ℕ) → access_of past entry ≡ Write (tx_buffer_of n) addr v → 0 < tx_size past n
+        → tx_byte (entry ∷ past) n at ≡ (if addr % tx_size past n == at % tx_size past n then v else tx_byte past n at) }
 {}
