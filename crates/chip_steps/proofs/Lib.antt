@@ -1,0 +1,4 @@
+mod Going
+mod Writing
+mod Lists
+mod SendingSteps
