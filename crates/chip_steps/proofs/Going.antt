@@ -1,9 +1,9 @@
 -- How a life goes on through an entry, and how one begins.
-use Rattle.std.proofs.Common.{◌≡◌, ◌≤◌, ◌<◌, ℕ, ◌+◌, Bool, true, false, not, ◌&&◌, ◌||◌, cond, eqb, List, [], ◌∷◌, Option, None, Some, inl, inr, refl, sym, ap, ◌∙◌, arith, ◌⊎◌}
+use Rattle.std.proofs.Common.{◌≡◌, ℕ, ◌+◌, Bool, true, false, not, ◌&&◌, ◌||◌, cond, eqb, [], ◌∷◌, Option, inl, inr, refl, sym, ap, ◌∙◌, subst, arith}
 use Rattle.std.specs.Option.{unwrap_or}
-use Rattle.std.proofs.lemmas.Bool.{cond-true, cond-false, and_left, and_right, or_right, cases_Bool}
+use Rattle.std.proofs.lemmas.Bool.{cond-true, cond-false, and_left, and_right, and_from, or_left, eq-eqb, cases_Bool}
 use Rattle.chip_sheet.specs.declared.socket.Status.{Status}
-use Rattle.chip_sheet.specs.declared.socket.Status.TheVariants.{Closed, Init, Listen, SynSent, Established, FinWait, CloseWait, LastAck, Udp}
+use Rattle.chip_sheet.specs.declared.socket.Status.TheVariants.{Closed}
 use Rattle.chip_sheet.specs.declared.socket.Cause.{Cause}
 use Rattle.chip_sheet.specs.declared.socket.Cause.TheVariants as because
 use Rattle.chip_sheet.specs.declared.event.Entry.{Entry}
@@ -14,8 +14,10 @@ use Rattle.chip_sheet.specs.Past.{Past}
 use Rattle.chip_sheet.specs.Life.{Life, Facts, facts_of, life, life_after, lives_on, new_life, next, begins, cause, happening, status, lives, is_closed}
 use Rattle.chip_sheet.specs.Streams.{Starts, is_open, is_of, makes, is_made, tx_base, rx_base, pointer_after}
 use Rattle.chip_sheet.specs.Windows.{is_opened, opened_after}
+use Rattle.chip_sheet.specs.LinkCalls.{fits}
+use Rattle.chip_sheet.specs.Legal.{Legal}
 use Rattle.chip_sheet.proofs.LifeSteps.{life_cases, is_fresh}
-use Rattle.chip_sheet.proofs.MadeLaws.{made_other, unborn_made}
+use Rattle.chip_sheet.proofs.MadeLaws.{made_other, unborn_made, made_fresh}
 use Rattle.chip_steps.specs.Steps.{leaves_sent, leaves_got}
 
 -- What happens is no reset, and makes no connection.
@@ -29,6 +31,9 @@ is_plain why = true
 pub record GoesOn (why : Cause) (at : Status) : Type 0 where
   pub plain : is_plain why ≡ true
   pub old : begins why at ≡ false
+
+pub goes_by : (why other : Cause) (at : Status) → why ≡ other → GoesOn other at → GoesOn why at
+goes_by why other at is on = subst (λ (w : Cause). GoesOn w at) (sym is) on
 
 not_true : (b : Bool) → not b ≡ true → b ≡ false
 not_true true h = sym h
@@ -148,3 +153,65 @@ open_not_closed at h = refl
 pub fresh_not_closed : (at : Status) → is_fresh at ≡ true → is_closed at ≡ false
 fresh_not_closed Closed h = cc
 fresh_not_closed at h = refl
+
+-- What a link event is for its own socket, in its present life.
+pub own_cause : (past : Past) (n : ℕ) (what : LinkEntry) → cause past n (Link n what) ≡ happening what
+own_cause past n what = cond-true (eqb n n) (happening what) because.Nothing (eq-eqb n n refl)
+
+pub own_life : (past : Past) (n : ℕ) → is_of past n n (lives past n) ≡ true
+own_life past n = and_from (eqb n n) (eqb (lives past n) (lives past n)) (eq-eqb n n refl) (eq-eqb (lives past n) (lives past n) refl)
+
+-- A connection is made of a socket that was not connected yet.
+pub record Making (starts : Starts) (past : Past) (n : ℕ) (what : LinkEntry) : Type 0 where
+  pub fresh : is_fresh (status past n) ≡ true
+  pub same : lives (Link n what ∷ past) n ≡ lives past n
+  pub opened : is_opened (Link n what ∷ past) n ≡ true
+  pub made : is_made (Link n what ∷ past) n (lives (Link n what ∷ past) n) ≡ true
+  pub pointer : (start : ℕ) (byte : Option ℕ) (before : ℕ) → pointer_after (cause past n (Link n what)) (status past n) start byte before ≡ start
+
+-- What makes a connection.
+abbrev links : Cause → Bool
+links because.Linked = true
+links because.Accepted = true
+links why = false
+
+makes_links : (what : LinkEntry) → makes what ≡ true → links (happening what) ≡ true
+makes_links Linked h = refl
+makes_links (Accepted from) h = refl
+makes_links what h = cc
+
+links_begin : (why : Cause) (at : Status) → links why ≡ true → begins why at ≡ false
+links_begin because.Linked at h = refl
+links_begin because.Accepted at h = refl
+links_begin why at h = cc
+
+links_opened : (why : Cause) (at : Status) (before : Bool) → links why ≡ true → opened_after why at before ≡ before
+links_opened because.Linked at before h = refl
+links_opened because.Accepted at before h = refl
+links_opened why at before h = cc
+
+links_pointer : (why : Cause) (at : Status) (start : ℕ) (byte : Option ℕ) (before : ℕ) → links why ≡ true → pointer_after why at start byte before ≡ start
+links_pointer because.Linked at start byte before h = refl
+links_pointer because.Accepted at start byte before h = refl
+links_pointer why at start byte before h = cc
+
+is_young : (starts : Starts) (past : Past) (n : ℕ) (what : LinkEntry) → fits starts past n what ≡ true → makes what ≡ true → is_fresh (status past n) ≡ true
+is_young starts past n what may makes_it =
+    elim (cases_Bool (is_fresh (status past n))) [
+      | inl young ↦ young
+      | inr old ↦ absurd (made_fresh starts past n what makes_it may old)
+    ]
+
+pub making : (starts : Starts) (past : Past) (n : ℕ) (what : LinkEntry) → Legal starts (Link n what ∷ past) → makes what ≡ true → Making starts past n what
+making starts past n what legal makes_it =
+    let young = is_young starts past n what legal.0.1 makes_it in
+    let why = ap links (own_cause past n what) ∙ makes_links what makes_it in
+    let same = lives_same past (Link n what) n (links_begin (cause past n (Link n what)) (status past n) why) in
+    record {
+      fresh = young;
+      same = same;
+      opened = links_opened (cause past n (Link n what)) (status past n) (is_opened past n) why ∙ opened_open past n (fresh_not_closed (status past n) young);
+      made = ap (is_made (Link n what ∷ past) n) same
+          ∙ or_left (makes what && is_of past n n (lives past n)) (is_made past n (lives past n)) (and_from (makes what) (is_of past n n (lives past n)) makes_it (own_life past n));
+      pointer = λ start byte before. links_pointer (cause past n (Link n what)) (status past n) start byte before why;
+    }

@@ -2,3 +2,4 @@ mod Going
 mod Writing
 mod Lists
 mod SendingSteps
+mod ReceivingSteps

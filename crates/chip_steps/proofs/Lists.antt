@@ -1,8 +1,8 @@
 -- The lists and counts of a life that an entry leaves, and those of a life that begins.
-use Rattle.std.proofs.Common.{◌≡◌, ◌≤◌, ◌<◌, ℕ, ◌+◌, ◌-◌, zero, suc, Bool, true, false, not, ◌&&◌, cond, eqb, List, [], ◌∷◌, ◌++◌, length, append-nil, length-append, inl, inr, refl, sym, ap, ◌∙◌, arith}
-use Rattle.std.proofs.lemmas.Bool.{cond-true, cond-false, and_left, and_right, ne_eqb, eq-eqb}
+use Rattle.std.proofs.Common.{◌≡◌, ◌<◌, ℕ, ◌+◌, zero, suc, Bool, true, false, not, ◌&&◌, cond, eqb, List, [], ◌∷◌, ◌++◌, length, append-nil, inl, inr, refl, sym, ap, ◌∙◌, arith}
+use Rattle.std.proofs.lemmas.Bool.{cond-false, and_left, and_right, ne_eqb}
 use Rattle.chip_sheet.specs.declared.socket.Status.{Status}
-use Rattle.chip_sheet.specs.declared.socket.Status.TheVariants.{Closed, Init, Listen, SynSent, Established, FinWait, CloseWait, LastAck, Udp}
+use Rattle.chip_sheet.specs.declared.socket.Status.TheVariants.{Established, CloseWait, Udp}
 use Rattle.chip_sheet.specs.declared.socket.Cause.{Cause}
 use Rattle.chip_sheet.specs.declared.socket.Cause.TheVariants as because
 use Rattle.chip_sheet.specs.declared.event.Entry.{Entry}
@@ -12,8 +12,9 @@ use Rattle.chip_sheet.specs.declared.event.LinkEntry.TheVariants.{Took, Got, Dat
 use Rattle.chip_sheet.specs.Past.{Past}
 use Rattle.chip_sheet.specs.Life.{life, cause, happening, status, lives}
 use Rattle.chip_sheet.specs.Sending.{bytes_from}
-use Rattle.chip_sheet.specs.Streams.{Starts, sent, sent_by, ends, ends_by, sends, takes_send, taken, taken_by, is_open, is_of, put_by, free_behind, got, released, released_by, range_length}
-use Rattle.chip_sheet.proofs.LifeSteps.{is_fresh, was_young, lives_grow, unborn_sent, fresh_sent}
+use Rattle.chip_sheet.specs.Streams.{Starts, sent, sent_by, ends, ends_by, sends, takes_send, taken, taken_by, is_open, put_by, free_behind, got, released, released_by}
+use Rattle.chip_sheet.proofs.LifeSteps.{is_fresh, was_young, lives_grow}
+use Rattle.chip_sheet.proofs.Within.{never_asks}
 use Rattle.chip_steps.specs.Steps.{leaves_sent, leaves_got}
 
 not_true : (b : Bool) → not b ≡ true → b ≡ false
@@ -136,3 +137,9 @@ fresh_ends starts (entry ∷ past) n h =
 pub bytes_length : (f : ℕ → ℕ) (at count : ℕ) → length (bytes_from f at count) ≡ count
 bytes_length f at zero = refl
 bytes_length f at (suc count) = ap suc (bytes_length f (at + 1) count)
+
+-- A RECV brings nothing in.
+pub got_stays : (starts : Starts) (past : Past) (entry : Entry) (n l : ℕ) → cause past n entry ≡ because.Receive → got starts (entry ∷ past) n l ≡ got starts past n l
+got_stays starts past (Bus e a) n l h = refl
+got_stays starts past Rest n l h = refl
+got_stays starts past (Link m what) n l h = absurd (never_asks (eqb m n) what h)

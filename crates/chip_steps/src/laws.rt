@@ -1,13 +1,25 @@
 //! The laws of the two directions.
-ghost use Rattle.std.specs.Prelude.{◌≡◌, ◌∷◌, ℕ, true, false};
+ghost use Rattle.std.specs.Prelude.{◌≡◌, ◌∷◌, ℕ, List, true, false};
+ghost use Rattle.chip_sheet.specs.declared.event.Addr.{Addr};
 ghost use Rattle.chip_sheet.specs.declared.event.Entry.{Entry};
+ghost use Rattle.chip_sheet.specs.declared.event.Entry.TheVariants.{Link};
+ghost use Rattle.chip_sheet.specs.declared.event.LinkEntry.{LinkEntry};
+ghost use Rattle.chip_sheet.specs.declared.event.LinkEntry.TheVariants.{Took, Got, Datagram};
+ghost use Rattle.chip_sheet.specs.declared.phase.Access.TheVariants.{Write};
+ghost use Rattle.chip_sheet.specs.declared.socket.Cause.TheVariants as because;
 ghost use Rattle.chip_sheet.specs.Past.{Past};
 ghost use Rattle.chip_sheet.specs.Frames.{access_of};
-ghost use Rattle.chip_sheet.specs.Life.{cause, status};
-ghost use Rattle.chip_sheet.specs.Streams.{Starts, is_open};
-ghost use Rattle.chip_sheet.specs.Buffers.{sending};
-ghost use Rattle.chip_sheet.specs.Sending.{after_empty};
-ghost use Rattle.chip_steps.specs.Steps.{writes_command_alone, leaves_sent};
+ghost use Rattle.chip_sheet.specs.Blocks.{registers_of, tx_buffer_of};
+ghost use Rattle.chip_sheet.specs.Sizes.{tx_sizes, rx_sizes, tx_size, rx_size, resizes};
+ghost use Rattle.chip_sheet.specs.Life.{cause, status, begins};
+ghost use Rattle.chip_sheet.specs.Streams.{Starts, sends, is_open, makes, put_by};
+ghost use Rattle.chip_sheet.specs.Buffers.{sending, receiving};
+ghost use Rattle.chip_sheet.specs.Windows.{rx_free};
+ghost use Rattle.chip_sheet.specs.Legal.{Legal};
+ghost use Rattle.chip_sheet.specs.Quiet.{writes_to};
+ghost use Rattle.chip_sheet.specs.Sending.{after_write, after_commit, after_taken, after_empty, after_begin, after_pointer, after_resize};
+ghost use Rattle.chip_sheet.specs.Receiving as receives;
+ghost use Rattle.chip_steps.specs.Steps.{writes_command_alone, leaves_sent, leaves_got};
 
 /// A command or a link event that leaves what was sent changes nothing of what a socket sends where the socket is open after it as
 /// before, and empties the window where it is not open after it.
@@ -16,4 +28,62 @@ pub fn sending_left()
         → is_open (status (entry ∷ past) n) ≡ is_open (status past n) → sending starts (entry ∷ past) n ≡ sending starts past n }
     ensures empties { (starts : Starts) (past : Past) (entry : Entry) (n : ℕ) → writes_command_alone (access_of past entry) n ≡ true → leaves_sent (cause past n entry) (status past n) ≡ true
         → is_open (status (entry ∷ past) n) ≡ false → sending starts (entry ∷ past) n ≡ after_empty (sending starts past n) }
+{}
+
+/// What a write that is no command makes of what a socket sends: a byte of its TX buffer, a byte of its registers, and a change of a TX
+/// size, of this socket or another. A write elsewhere leaves it.
+pub fn sending_written()
+    ensures unwritten { (starts : Starts) (past : Past) (entry : Entry) (n : ℕ) → cause past n entry ≡ because.Nothing → writes_to (access_of past entry) (registers_of n) ≡ false
+        → writes_to (access_of past entry) (tx_buffer_of n) ≡ false → resizes past tx_sizes (access_of past entry) ≡ false → sending starts (entry ∷ past) n ≡ sending starts past n }
+    ensures written { (starts : Starts) (past : Past) (entry : Entry) (n addr v : ℕ) → access_of past entry ≡ Write (tx_buffer_of n) addr v
+        → sending starts (entry ∷ past) n ≡ after_write (sending starts past n) addr v }
+    ensures pointer { (starts : Starts) (past : Past) (entry : Entry) (n addr v : ℕ) → cause past n entry ≡ because.Nothing → access_of past entry ≡ Write (registers_of n) addr v
+        → resizes past tx_sizes (access_of past entry) ≡ false → sending starts (entry ∷ past) n ≡ after_pointer (sending starts past n) addr v }
+    ensures resize { (starts : Starts) (past : Past) (entry : Entry) (n : ℕ) → resizes past tx_sizes (access_of past entry) ≡ true
+        → sending starts (entry ∷ past) n ≡ after_resize (sending starts past n) (tx_size (entry ∷ past) n) }
+{}
+
+/// What a SEND, bytes that the link took, an accepted OPEN and a connection that is made, make of what a socket sends.
+pub fn sending_steps()
+    ensures commits { (starts : Starts) (past : Past) (entry : Entry) (n : ℕ) → Legal starts past → writes_command_alone (access_of past entry) n ≡ true → cause past n entry ≡ because.Send
+        → sends (status past n) ≡ true → sending starts (entry ∷ past) n ≡ after_commit (sending starts past n) }
+    ensures took { (starts : Starts) (past : Past) (n count : ℕ) → sending starts (Link n (Took count) ∷ past) n ≡ after_taken (sending starts past n) count }
+    ensures opens { (starts : Starts) (past : Past) (entry : Entry) (n : ℕ) → writes_command_alone (access_of past entry) n ≡ true → begins (cause past n entry) (status past n) ≡ true
+        → sending starts (entry ∷ past) n ≡ after_begin (sending starts past n) 0 }
+    ensures connects { (starts : Starts) (past : Past) (n : ℕ) (what : LinkEntry) → Legal starts (Link n what ∷ past) → makes what ≡ true
+        → sending starts (Link n what ∷ past) n ≡ after_begin (sending starts past n) starts.tx }
+{}
+
+/// A command or a link event that leaves what was received changes nothing of what a socket receives where the socket is open after it
+/// as before, and empties the window where it is not open after it.
+pub fn receiving_left()
+    ensures stays { (starts : Starts) (past : Past) (entry : Entry) (n : ℕ) → writes_command_alone (access_of past entry) n ≡ true → leaves_got (cause past n entry) (status past n) ≡ true
+        → is_open (status (entry ∷ past) n) ≡ is_open (status past n) → receiving starts (entry ∷ past) n ≡ receiving starts past n }
+    ensures empties { (starts : Starts) (past : Past) (entry : Entry) (n : ℕ) → writes_command_alone (access_of past entry) n ≡ true → leaves_got (cause past n entry) (status past n) ≡ true
+        → is_open (status (entry ∷ past) n) ≡ false → receiving starts (entry ∷ past) n ≡ receives.after_empty (receiving starts past n) }
+{}
+
+/// What a write that is no command makes of what a socket receives: a byte of its registers, and a change of an RX size, of this socket
+/// or another. A write elsewhere, to a TX buffer too, leaves it.
+pub fn receiving_written()
+    ensures unwritten { (starts : Starts) (past : Past) (entry : Entry) (n : ℕ) → cause past n entry ≡ because.Nothing → writes_to (access_of past entry) (registers_of n) ≡ false
+        → resizes past rx_sizes (access_of past entry) ≡ false → receiving starts (entry ∷ past) n ≡ receiving starts past n }
+    ensures pointer { (starts : Starts) (past : Past) (entry : Entry) (n addr v : ℕ) → cause past n entry ≡ because.Nothing → access_of past entry ≡ Write (registers_of n) addr v
+        → resizes past rx_sizes (access_of past entry) ≡ false → receiving starts (entry ∷ past) n ≡ receives.after_pointer (receiving starts past n) addr v }
+    ensures resize { (starts : Starts) (past : Past) (entry : Entry) (n : ℕ) → resizes past rx_sizes (access_of past entry) ≡ true
+        → receiving starts (entry ∷ past) n ≡ receives.after_resize (receiving starts past n) (rx_size (entry ∷ past) n) }
+{}
+
+/// What a RECV, bytes and datagrams that come in, an accepted OPEN and a connection that is made, make of what a socket receives.
+pub fn receiving_steps()
+    ensures releases { (starts : Starts) (past : Past) (entry : Entry) (n : ℕ) → Legal starts past → writes_command_alone (access_of past entry) n ≡ true → cause past n entry ≡ because.Receive
+        → is_open (status past n) ≡ true → receiving starts (entry ∷ past) n ≡ receives.after_release (receiving starts past n) }
+    ensures gets { (starts : Starts) (past : Past) (n : ℕ) (bytes : List ℕ) → Legal starts past → is_open (status past n) ≡ true
+        → receiving starts (Link n (Got bytes) ∷ past) n ≡ receives.after_got (receiving starts past n) (put_by (status past n) (rx_free starts past n) (Got bytes)) }
+    ensures gets_datagram { (starts : Starts) (past : Past) (n : ℕ) (from : Addr) (body : List ℕ) → Legal starts past → is_open (status past n) ≡ true
+        → receiving starts (Link n (Datagram from body) ∷ past) n ≡ receives.after_got (receiving starts past n) (put_by (status past n) (rx_free starts past n) (Datagram from body)) }
+    ensures opens { (starts : Starts) (past : Past) (entry : Entry) (n : ℕ) → writes_command_alone (access_of past entry) n ≡ true → begins (cause past n entry) (status past n) ≡ true
+        → receiving starts (entry ∷ past) n ≡ receives.after_begin (receiving starts past n) 0 }
+    ensures connects { (starts : Starts) (past : Past) (n : ℕ) (what : LinkEntry) → Legal starts (Link n what ∷ past) → makes what ≡ true
+        → receiving starts (Link n what ∷ past) n ≡ receives.after_begin (receiving starts past n) starts.rx }
 {}
