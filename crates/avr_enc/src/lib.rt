@@ -2,14 +2,15 @@
 #![tactic(auto)]
 
 pub mod encoder;
-mod line;
+pub mod line;
 mod operand;
 mod shapes;
 mod syntax;
 pub mod writer;
 
 pub use encoder::encode;
-pub use writer::text;
+pub use line::{Line, TEXT_ROOM};
+pub use writer::{line_of, text};
 
 #[cfg(test)]
 mod tests;

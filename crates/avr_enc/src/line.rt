@@ -9,12 +9,13 @@ use crate::syntax::Syntax;
 use avr_table::Pointer;
 use std::marker::Model;
 
-const ROOM: usize = 32;
+/// The most bytes of an instruction's text.
+pub const TEXT_ROOM: usize = 32;
 
 /// A text of at most 32 bytes; contracts see the list of its bytes.
 #[derive(Drop)]
-pub(crate) struct Line {
-    bytes: [u8; ROOM],
+pub struct Line {
+    bytes: [u8; TEXT_ROOM],
     len: usize,
 }
 
@@ -33,13 +34,15 @@ impl Line {
         ensures { result ≡ [] }
     {
         Line {
-            bytes: [0; ROOM],
+            bytes: [0; TEXT_ROOM],
             len: 0,
         }
     }
 
-    pub(crate) fn as_bytes(&self) -> &[u8]
-        ensures { result.now ≡ self.now }
+    /// Its bytes.
+    pub fn as_bytes(&self) -> &[u8]
+        ensures is { result.now ≡ self.now }
+        ensures short { length result.now ≤ TEXT_ROOM }
     {
         &self.bytes[..self.len]
     }

@@ -1,7 +1,8 @@
 -- How long no interrupt of the timers is requested.
-use Rattle.std.proofs.Common.{◌≡◌, ℕ, ◌+◌, ◌-◌, ◌*◌, ◌/◌, ◌%◌, ◌<◌, ◌≤◌, Bool, true, false, Option, Some, None, refl, ap, arith, sym, ◌∙◌, subst}
+use Rattle.std.proofs.Common.{◌≡◌, ◌⊎◌, ℕ, ◌+◌, ◌-◌, ◌*◌, ◌/◌, ◌%◌, ◌^◌, ◌<◌, ◌≤◌, min, Bool, true, false, Option, Some, None, refl, ap, arith, sym, ◌∙◌, subst, inl, inr}
 use Rattle.std.specs.Prelude.{◌&&◌, ◌||◌, if◌then◌else◌}
-use Rattle.std.proofs.Math.Nat.{div-lt_iff_lt-mul}
+use Rattle.std.proofs.Math.Nat.{div-lt_iff_lt-mul, mul-div_cancel}
+use Rattle.std.proofs.lemmas.Bool.{cases_lt, false≢true}
 use Rattle.avr_sheet.specs.BitNames.{OCIEA, OCIEB, TOIE}
 use Rattle.avr_sheet.specs.Bits.{is_set}
 use Rattle.avr_timer.specs.declared.course.Course.{Course}
@@ -14,8 +15,8 @@ use Rattle.avr_timer.specs.Ticks.{some_tick, ticks_between, IsFirst}
 use Rattle.avr_timer.specs.Modes.{course8, course16, prescale_of, timer2_prescale_of}
 use Rattle.avr_timer.specs.Timers.{TimersState, mode8, mode16, counter8, counter16, flags_after, run8, run16, passed8_by, passed16_by, passed8, passed16, passed}
 use Rattle.avr_timer.specs.Requests.{pending_vector, is_requested, vectors}
-use Rattle.avr_timer.specs.Quiet.{IsQuiet, IsQuietFor, StaysQuiet8, StaysQuiet16, StaysQuiet}
-use Rattle.avr_timer.proofs.Firsts.{some_tick-never, not_true}
+use Rattle.avr_timer.specs.Quiet.{IsQuiet, IsQuietFor, StaysQuiet8, StaysQuiet16, StaysQuiet, RequestComes8, RequestComes16, RequestComes}
+use Rattle.avr_timer.proofs.Firsts.{some_tick-never, some_tick-once, not_true}
 use Rattle.avr_timer.proofs.Spans.{div-le}
 
 -- before the first tick that passes none has
@@ -128,3 +129,122 @@ stay-quiet s now until0 until1 until2 until zero one two first second third none
       timer1 = kept _ _ _ (timsk16-kept (prescale_of (s.timer1.tccrb % 8)) (course16 (mode16 s.timer1) s.timer1.ocra s.timer1.icr) s.timer1 now to) (one are.timer1 to order (omega arith));
       timer2 = kept _ _ _ (timsk8-kept (timer2_prescale_of (s.timer2.tccrb % 8)) (course8 (mode8 s.timer2) s.timer2.ocra) s.timer2 now to) (two are.timer2 to order (omega arith));
     })
+
+-- at the first tick that passes one has
+pub at-first : (test : ℕ → Bool) (d : ℕ) → IsFirst test d → some_tick test d ≡ true
+at-first test d first =
+    let positive : 1 ≤ d = first.positive in
+    let number : d - 1 + 1 ≡ d = omega arith in
+    some_tick-once test d (d - 1) (omega arith) (first.passes (d - 1) number)
+
+-- the least of two is one of them
+least-of : (x y : ℕ) → (min x y ≡ x) ⊎ (min x y ≡ y)
+least-of x y = elim (cases_lt y x) [ inl below ↦ inr (omega arith) | inr above ↦ inl (omega arith) ]
+
+least-of-three : (x y z m n : ℕ) → m ≡ min x y → n ≡ min m z → (n ≡ x) ⊎ ((n ≡ y) ⊎ (n ≡ z))
+least-of-three x y z m n first second =
+    elim (least-of m z) [
+      | inr last ↦ inr (inr (second ∙ last))
+      | inl before ↦ elim (least-of x y) [
+        | inl one ↦ inl (second ∙ before ∙ first ∙ one)
+        | inr two ↦ inr (inl (second ∙ before ∙ first ∙ two))
+      ]
+    ]
+
+clash : (b : Bool) → b ≡ true → b ≡ false → ⊥
+clash b yes_is no_is = false≢true (sym no_is ∙ yes_is)
+
+-- the first enabled flag rises at the least of the three ticks
+pub flag-rises : (timsk : ℕ) (course : Course) (c : Counter) (a b x y z m n : ℕ) → m ≡ min x y → n ≡ min m z
+    → (x < 2 ^ 64 - 1 → (is_set timsk OCIEA && some_tick (is_match course c a) x) ≡ true)
+    → (y < 2 ^ 64 - 1 → (is_set timsk OCIEB && some_tick (is_match course c b) y) ≡ true)
+    → (z < 2 ^ 64 - 1 → (is_set timsk TOIE && some_tick (is_overflow course c) z) ≡ true)
+    → n < 2 ^ 64 - 1 → IsQuietFor timsk course c a b n → ⊥
+flag-rises timsk course c a b x y z m n first second at_a at_b at_o small quiet =
+    elim (least-of-three x y z m n first second) [
+      | inl is ↦ clash (is_set timsk OCIEA && some_tick (is_match course c a) n) (rw is (at_a (omega (arith, is, small)))) quiet.match_a
+      | inr (inl is) ↦ clash (is_set timsk OCIEB && some_tick (is_match course c b) n) (rw is (at_b (omega (arith, is, small)))) quiet.match_b
+      | inr (inr is) ↦ clash (is_set timsk TOIE && some_tick (is_overflow course c) n) (rw is (at_o (omega (arith, is, small)))) quiet.overflow
+    ]
+
+-- the cycle count of a tick has just that tick behind it
+pub ticks-at : (p now number at : ℕ) → 0 < p → at ≡ (now / p + number) * p → ticks_between p now at ≡ number
+ticks-at p now number at some is =
+    let all : at / p ≡ now / p + number = ap (λ (n : ℕ). n / p) is ∙ mul-div_cancel (now / p + number) some in
+    omega (arith, all)
+
+-- a product that no bound has cut
+exact-product : (p q sum result : ℕ) → 0 < p → sum ≡ min q (2 ^ 64 - 1) → result ≡ min (sum * p) (2 ^ 64 - 1) → result < 2 ^ 64 - 1
+    → (q < 2 ^ 64 - 1) × (result ≡ q * p)
+exact-product p q sum result some sum_is is small =
+    elim (cases_lt q (2 ^ 64 - 1)) [
+      | inl below ↦
+          let same : sum ≡ q = omega (arith, sum_is) in
+          let product : result ≡ min (q * p) (2 ^ 64 - 1) = is ∙ ap (λ (n : ℕ). min (n * p) (2 ^ 64 - 1)) same in
+          (below, omega (arith, product, small))
+      | inr above ↦
+          let same : sum ≡ 2 ^ 64 - 1 = omega (arith, sum_is) in
+          let product : result ≡ min ((2 ^ 64 - 1) * p) (2 ^ 64 - 1) = is ∙ ap (λ (n : ℕ). min (n * p) (2 ^ 64 - 1)) same in
+          absurd (omega (arith, product, small))
+    ]
+
+pub cycle-at : (p now number sum result : ℕ) → 0 < p → sum ≡ min (now / p + number) (2 ^ 64 - 1) → result ≡ min (sum * p) (2 ^ 64 - 1)
+    → result < 2 ^ 64 - 1 → ticks_between p now result ≡ number
+cycle-at p now number sum result some sum_is is small =
+    ticks-at p now number result some (exact-product p (now / p + number) sum result some sum_is is small).1
+
+pub number-small : (p now number sum result : ℕ) → 0 < p → sum ≡ min (now / p + number) (2 ^ 64 - 1) → result ≡ min (sum * p) (2 ^ 64 - 1)
+    → result < 2 ^ 64 - 1 → number < 2 ^ 64 - 1
+number-small p now number sum result some sum_is is small =
+    let below = (exact-product p (now / p + number) sum result some sum_is is small).0 in omega (arith, below)
+
+or-quiet : (e f s : Bool) → (e && (f || s)) ≡ false → (e && s) ≡ false
+or-quiet true true s is = absurd (false≢true (sym is))
+or-quiet true false s is = is
+or-quiet false f s is = refl
+
+-- a timer that is quiet after some ticks was quiet for them
+quiet-for : (timsk : ℕ) (f : Flags) (course : Course) (c : Counter) (a b k : ℕ)
+    → IsQuiet timsk (flags_after course c a b f k) → IsQuietFor timsk course c a b k
+quiet-for timsk f course c a b k quiet = record {
+  match_a = or-quiet (is_set timsk OCIEA) f.match_a (some_tick (is_match course c a) k) quiet.match_a;
+  match_b = or-quiet (is_set timsk OCIEB) f.match_b (some_tick (is_match course c b) k) quiet.match_b;
+  overflow = or-quiet (is_set timsk TOIE) f.overflow (some_tick (is_overflow course c) k) quiet.overflow;
+}
+
+pub comes8 : (prescale : Option ℕ) (p number : ℕ) (course : Course) (t : Timer8) (now at : ℕ)
+    → prescale ≡ Some p → course8 (mode8 t) t.ocra ≡ Some course
+    → (now ≤ at → at < 2 ^ 64 - 1 → ticks_between p now at ≡ number)
+    → (at < 2 ^ 64 - 1 → (IsQuietFor t.timsk course (counter8 t) t.ocra t.ocrb number → ⊥))
+    → RequestComes8 prescale t now at
+unfolding run8
+comes8 prescale p number course t now at runs mode ticks rises order small quiet =
+    let after : IsQuiet t.timsk (flags_after course (counter8 t) t.ocra t.ocrb t.flags (ticks_between p now at)) = rw (runs, mode) at quiet in
+    rises small (rw (ticks order small) at (quiet-for t.timsk t.flags course (counter8 t) t.ocra t.ocrb (ticks_between p now at) after))
+
+pub comes16 : (prescale : Option ℕ) (p number : ℕ) (course : Course) (t : Timer16) (now at : ℕ)
+    → prescale ≡ Some p → course16 (mode16 t) t.ocra t.icr ≡ Some course
+    → (now ≤ at → at < 2 ^ 64 - 1 → ticks_between p now at ≡ number)
+    → (at < 2 ^ 64 - 1 → (IsQuietFor t.timsk course (counter16 t) t.ocra t.ocrb number → ⊥))
+    → RequestComes16 prescale t now at
+unfolding run16
+comes16 prescale p number course t now at runs mode ticks rises order small quiet =
+    let after : IsQuiet t.timsk (flags_after course (counter16 t) t.ocra t.ocrb t.flags (ticks_between p now at)) = rw (runs, mode) at quiet in
+    rises small (rw (ticks order small) at (quiet-for t.timsk t.flags course (counter16 t) t.ocra t.ocrb (ticks_between p now at) after))
+
+-- the request of the first of the timers comes
+pub request-comes : (s : TimersState) (now until0 until1 until2 first until : ℕ) → first ≡ min until0 until1 → until ≡ min first until2
+    → RequestComes8 (prescale_of (s.timer0.tccrb % 8)) s.timer0 now until0
+    → RequestComes16 (prescale_of (s.timer1.tccrb % 8)) s.timer1 now until1
+    → RequestComes8 (timer2_prescale_of (s.timer2.tccrb % 8)) s.timer2 now until2
+    → RequestComes s now until
+request-comes s now until0 until1 until2 first until one_is is zero one two order small none =
+    let are = quiet-of (passed s now until) none in
+    elim (least-of-three until0 until1 until2 first until one_is is) [
+      | inl same ↦ subst (λ (n : ℕ). RequestComes8 (prescale_of (s.timer0.tccrb % 8)) s.timer0 now n) (sym same) zero order small
+          (kept _ _ _ (sym (timsk8-kept (prescale_of (s.timer0.tccrb % 8)) (course8 (mode8 s.timer0) s.timer0.ocra) s.timer0 now until)) are.timer0)
+      | inr (inl same) ↦ subst (λ (n : ℕ). RequestComes16 (prescale_of (s.timer1.tccrb % 8)) s.timer1 now n) (sym same) one order small
+          (kept _ _ _ (sym (timsk16-kept (prescale_of (s.timer1.tccrb % 8)) (course16 (mode16 s.timer1) s.timer1.ocra s.timer1.icr) s.timer1 now until)) are.timer1)
+      | inr (inr same) ↦ subst (λ (n : ℕ). RequestComes8 (timer2_prescale_of (s.timer2.tccrb % 8)) s.timer2 now n) (sym same) two order small
+          (kept _ _ _ (sym (timsk8-kept (timer2_prescale_of (s.timer2.tccrb % 8)) (course8 (mode8 s.timer2) s.timer2.ocra) s.timer2 now until)) are.timer2)
+    ]

@@ -1,5 +1,5 @@
 -- How long no interrupt of the timers is requested.
-use Rattle.std.specs.Prelude.{◌≡◌, ℕ, ◌<◌, ◌≤◌, Bool, false, ◌&&◌, Option, None}
+use Rattle.std.specs.Prelude.{◌≡◌, ◌≢◌, ℕ, ◌-◌, ◌^◌, ◌<◌, ◌≤◌, Bool, false, ◌&&◌, Option, None}
 use Rattle.avr_sheet.specs.BitNames.{OCIEA, OCIEB, TOIE}
 use Rattle.avr_sheet.specs.Bits.{is_set}
 use Rattle.avr_timer.specs.declared.course.Course.{Course}
@@ -32,6 +32,16 @@ StaysQuiet8 prescale t now until =
 abbrev pub StaysQuiet16 : Option ℕ → Timer16 → ℕ → ℕ → Type 0
 StaysQuiet16 prescale t now until =
     IsQuiet t.timsk t.flags → (to : ℕ) → now ≤ to → to < until → IsQuiet t.timsk (passed16 prescale t now to).flags
+
+-- And some request comes at that cycle count, where it is below the largest number of 64 bits.
+abbrev pub RequestComes8 : Option ℕ → Timer8 → ℕ → ℕ → Type 0
+RequestComes8 prescale t now at = now ≤ at → at < 2 ^ 64 - 1 → IsQuiet t.timsk (passed8 prescale t now at).flags → ⊥
+
+abbrev pub RequestComes16 : Option ℕ → Timer16 → ℕ → ℕ → Type 0
+RequestComes16 prescale t now at = now ≤ at → at < 2 ^ 64 - 1 → IsQuiet t.timsk (passed16 prescale t now at).flags → ⊥
+
+abbrev pub RequestComes : TimersState → ℕ → ℕ → Type 0
+RequestComes s now at = now ≤ at → at < 2 ^ 64 - 1 → pending_vector (passed s now at) ≢ None
 
 -- Where nothing is pending at one cycle count, nothing is up to another.
 abbrev pub StaysQuiet : TimersState → ℕ → ℕ → Type 0

@@ -3,7 +3,7 @@ ghost use Rattle.std.specs.Prelude.{◌≡◌, ◌<◌, ◌≤◌, find};
 ghost use Rattle.avr_timer.specs.Timers.{reset_state, passed};
 ghost use Rattle.avr_timer.specs.Writes.{read_value, read_state, write_outcome, outcome_at, answer_of, left_by};
 ghost use Rattle.avr_timer.specs.Laws.{IsHeld};
-ghost use Rattle.avr_timer.specs.Quiet.{StaysQuiet};
+ghost use Rattle.avr_timer.specs.Quiet.{RequestComes, StaysQuiet};
 ghost use Rattle.avr_timer.specs.Requests.{pending_vector, served_state, is_requested, timer0_vectors, timer1_and_0_vectors};
 
 use crate::modes::{prescale_of, timer2_prescale_of};
@@ -196,10 +196,11 @@ impl Timers {
         }
     }
 
-    /// A cycle count up to which no request of the timers comes, where none is pending at `now`, the count that was passed
-    /// last: that at which the next tick raises an enabled flag, `u64::MAX` where none does.
+    /// The cycle count of the next request of the timers, where none is pending at `now`, the count that was passed last: that
+    /// at which the next tick raises an enabled flag, `u64::MAX` where none does.
     pub fn quiet_until(&self, now: u64) -> u64
-        ensures { StaysQuiet self.now now result }
+        ensures before { StaysQuiet self.now now result }
+        ensures at { RequestComes self.now now result }
     {
         let until0 = self
             .timer0

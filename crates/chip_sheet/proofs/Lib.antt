@@ -18,3 +18,4 @@ pub mod ResetRestores
 pub mod MadeLaws
 pub mod LivesLaws
 pub mod SendLaws
+pub mod DatagramLaws

@@ -4,31 +4,33 @@ ghost use Rattle.std.specs.Option.{IsSome};
 ghost use Rattle.board_bus.specs.declared.event.BusEvent.{BusEvent};
 ghost use Rattle.board_bus.specs.declared.event.BusEvent.TheVariants.{Byte};
 ghost use Rattle.board_bus.specs.declared.event.BusAnswer.{BusAnswer};
-ghost use Rattle.chip_sheet.specs.declared.event.Entry.TheVariants.{Bus};
+ghost use Rattle.chip_sheet.specs.declared.event.Entry.TheVariants.{Bus, Link};
+ghost use Rattle.chip_sheet.specs.declared.event.LinkEntry.TheVariants.{Took, Datagram};
+ghost use Rattle.chip_sheet.specs.declared.event.Addr.{Addr};
+ghost use Rattle.chip_sheet.specs.declared.stop.ChipStop.TheVariants.{SendBusy};
+ghost use Rattle.chip_sheet.specs.declared.socket.Interrupt.TheVariants.{Received};
 ghost use Rattle.board_bus.specs.declared.event.BusAnswer.TheVariants.{Out};
 ghost use Rattle.chip_sheet.specs.declared.phase.Access.TheVariants.{NoAccess, Write};
 ghost use Rattle.chip_sheet.specs.declared.socket.Status.TheVariants.{Closed, Established, FinWait, CloseWait, LastAck, Udp};
 ghost use Rattle.chip_sheet.specs.declared.socket.Cause.TheVariants.{Send};
 ghost use Rattle.chip_sheet.specs.declared.event.Entry.{Entry};
-ghost use Rattle.chip_sheet.specs.declared.event.LinkEntry.{LinkEntry};
 ghost use Rattle.chip_sheet.specs.Past.{Past, GoesOn};
-ghost use Rattle.chip_sheet.specs.Frames.{access, access_of, is_low};
+ghost use Rattle.chip_sheet.specs.Frames.{access, access_of};
 ghost use Rattle.chip_sheet.specs.Registers.{is_reset};
 ghost use Rattle.chip_sheet.specs.Life.{cause, status, lives, old, is_closed, is_udp};
 ghost use Rattle.chip_sheet.specs.Sizes.{is_size, tx_size, rx_size};
-ghost use Rattle.chip_sheet.specs.Streams.{Starts, sent, sends, range, range_length, taken, got, released, tx_byte, tx_base, rx_base, is_open, is_made};
-ghost use Rattle.chip_sheet.specs.Windows.{flight, unread, tx_free, rx_byte, in_flight_at, offered_length, offered, room_length};
+ghost use Rattle.chip_sheet.specs.Streams.{Starts, sent, sends, range, range_length, taken, got, released, tx_byte, tx_base, rx_base, is_open, is_made, header};
+ghost use Rattle.chip_sheet.specs.Windows.{flight, unread, tx_free, rx_free, rx_byte, in_flight_at, offered_length, offered, room_length};
 ghost use Rattle.chip_sheet.specs.Answers.{answer, byte_at};
 ghost use Rattle.chip_sheet.specs.Legal.{Legal, FitsAfter};
-ghost use Rattle.chip_sheet.specs.Replay.{Step, Happens, AllTaken, told};
 ghost use Rattle.chip_sheet.specs.Bits.{has_bit};
-ghost use Rattle.chip_sheet.specs.Interrupts.{bit_value, raised, interrupt_register, mask, asks, sir_register, enabled_sockets, interrupt_low};
+ghost use Rattle.chip_sheet.specs.Interrupts.{bit_value, raised_by, raised, interrupt_register, mask, asks, sir_register, enabled_sockets, interrupt_low};
 ghost use Rattle.chip_sheet.specs.declared.socket.Interrupt.{Interrupt};
 ghost use Rattle.chip_sheet.specs.declared.socket.Due.{Due};
 ghost use Rattle.chip_sheet.specs.declared.block.Block.{Block};
 ghost use Rattle.chip_sheet.specs.declared.block.Block.TheVariants.{Registers, TxBuffer, RxBuffer};
 ghost use Rattle.chip_sheet.specs.Blocks.{block_of, registers_of, tx_buffer_of, rx_buffer_of};
-ghost use Rattle.chip_sheet.specs.LinkCalls.{outgoing, incoming, connection, kept_address, kept_port};
+ghost use Rattle.chip_sheet.specs.LinkCalls.{outgoing, incoming, connection, kept_address, kept_port, fits};
 ghost use Rattle.chip_sheet.specs.LinkAnswers.{LinkAnswer, entry_by, may_answer};
 ghost use Rattle.chip_sheet.specs.Sending.{fresh};
 ghost use Rattle.chip_sheet.specs.Receiving as receiving_of;
@@ -190,4 +192,16 @@ pub fn windows_of_a_connection()
 pub fn written_reads_back()
     ensures { (past : Past) (entry : Entry) (n addr v at : ℕ) → access_of past entry ≡ Write (tx_buffer_of n) addr v → 0 < tx_size past n
         → tx_byte (entry ∷ past) n at ≡ (if addr % tx_size past n == at % tx_size past n then v else tx_byte past n at) }
+{}
+
+/// Datagrams. While one is in flight another SEND stops; the link takes it whole. One that comes is put with a header of eight bytes
+/// where that and its body are free, and raises RECV; else it is lost, and raises nothing.
+pub fn datagrams()
+    ensures busy { (starts : Starts) (past : Past) (e : BusEvent) (n : ℕ) → access past e ≡ Write (registers_of n) sn_cr send_command → status past n ≡ Udp → 0 < flight starts past n → stop starts past e ≡ Some (SendBusy n) }
+    ensures whole { (starts : Starts) (past : Past) (n k : ℕ) → status past n ≡ Udp → fits starts past n (Took k) ≡ true → k ≡ flight starts past n }
+    ensures put { (starts : Starts) (past : Past) (n : ℕ) (from : Addr) (body : List ℕ) → status past n ≡ Udp → 8 + length body ≤ rx_free starts past n
+        → (got starts (Link n (Datagram from body) ∷ past) n (lives past n) ≡ got starts past n (lives past n) ++ (header from (length body) ++ body)) × (raised_by starts past n Received (Link n (Datagram from body)) ≡ true) }
+    ensures lost { (starts : Starts) (past : Past) (n : ℕ) (from : Addr) (body : List ℕ) → status past n ≡ Udp → rx_free starts past n < 8 + length body
+        → (got starts (Link n (Datagram from body) ∷ past) n (lives past n) ≡ got starts past n (lives past n)) × (raised_by starts past n Received (Link n (Datagram from body)) ≡ false) }
+    ensures header { (from : Addr) (count : ℕ) → length (header from count) ≡ 8 }
 {}

@@ -1,2 +1,3 @@
 mod SoFar
 mod Named
+pub mod Gathered

@@ -1,5 +1,6 @@
 pub mod Outside
 pub mod Whole
+pub mod Lines
 pub mod Calls
 pub mod Named
 pub mod MemFiles

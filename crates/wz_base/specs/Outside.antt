@@ -13,7 +13,7 @@ pub record RisesOnly (Cause : Type 0) (before now : ℕ) : Type 0 where
   pub rose : Cause → Rose before now
   pub still : ¬ Cause → now ≡ before
 
--- the first bytes that were left stand in the front of the buffer, and are no longer left
+-- the first bytes that were left stand at the start of the buffer, and are no longer left
 pub record ReadsFront (count : ℕ) (left buf rest : List ℕ) : Type 0 where
   pub there : count ≤ length left
   pub moved : take count buf ≡ take count left

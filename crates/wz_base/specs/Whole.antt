@@ -21,10 +21,10 @@ IsLeft left bytes = IfSome left (λ l. l ≡ bytes)
 abbrev pub IsLonger : Option (List ℕ) → ℕ → Type 0
 IsLonger left limit = IfSome left (λ l. limit < length l)
 
--- these bytes were written behind the earlier ones, and no others
+-- these bytes were written after the earlier ones, and no others
 abbrev pub Appends : Option (List ℕ) → List ℕ → Option (List ℕ) → Type 0
 Appends old bytes new = new ≡ option_map (λ w. w ++ bytes) old
 
--- a prefix of these bytes was written behind the earlier ones, and no others
+-- a prefix of these bytes was written after the earlier ones, and no others
 abbrev pub AppendsFront : Option (List ℕ) → List ℕ → Option (List ℕ) → Type 0
 AppendsFront old bytes new = (n : ℕ) × (n ≤ length bytes) × Appends old (take n bytes) new

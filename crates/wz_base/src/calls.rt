@@ -4,8 +4,11 @@ ghost use Rattle.std.specs.Prelude.{◌↔◌, ◌⊎◌, IsTrue};
 /// Which calls fail, how many were made, and how many failed.
 #[derive(Debug, Drop)]
 pub struct Calls {
+    /// The numbers of the calls that fail, from 1.
     failing: Vec<u64>,
+    /// How many calls were made.
     made: u64,
+    /// How many of them failed.
     faults: u64,
 }
 

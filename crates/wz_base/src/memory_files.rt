@@ -9,15 +9,20 @@ use crate::outside::{Failed, Files, PickFault, Source};
 /// Files in memory. Each pick and each read is a call, and those of the given numbers fail.
 #[derive(Drop)]
 pub struct MemFiles {
+    /// The files, each a name with its bytes.
     files: Vec<(String, Vec<u8>)>,
+    /// The calls so far.
     calls: Calls,
+    /// How many names were asked for and not there.
     misses: u64,
+    /// The place of the file that was picked last.
     current: Option<usize>,
+    /// How many of its bytes were read.
     at: usize,
     ghost within: { at ≤ length (bytes_at files.items current) },
 }
 
-// The place of the first file of that name.
+/// The place of the first file of that name.
 fn place_of(files: &[(String, Vec<u8>)], name: &str) -> Option<usize>
     ensures { FindsName files.now name.now result }
 {
@@ -29,8 +34,8 @@ fn place_of(files: &[(String, Vec<u8>)], name: &str) -> Option<usize>
     None
 }
 
-// Moves bytes from the front of the rest into the buffer, as many as fit.
-fn move_front(rest: &[u8], buf: &mut [u8]) -> usize
+/// Moves the first bytes of the rest into the buffer, as many as fit.
+fn move_first(rest: &[u8], buf: &mut [u8]) -> usize
     ensures moved { ReadsFront result rest.now buf.new (drop result rest.now) }
     ensures fits { result ≡ min (length rest.now) (length buf.new) }
 {
@@ -60,7 +65,7 @@ impl MemFiles {
         }
     }
 
-    // The bytes of the current file.
+    /// The bytes of the current file; none where no file was picked.
     fn current_bytes(&self) -> &[u8]
         ensures { result.now ≡ bytes_at self.now.files.items self.now.current }
     {
@@ -105,7 +110,7 @@ impl Source for MemFiles {
             return Err(Failed);
         }
         let rest = &self.current_bytes()[self.at..];
-        let count = move_front(rest, buf);
+        let count = move_first(rest, buf);
         self.at += count;
         Ok(count)
     }

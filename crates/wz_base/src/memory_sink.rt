@@ -8,8 +8,11 @@ use std::alloc::{AllocError, Global};
 /// A sink in memory with room for so many bytes. Each write is a call, and those of the given numbers fail.
 #[derive(Drop)]
 pub struct MemSink {
+    /// What was written.
     bytes: Vec<u8>,
+    /// How many bytes may be written in all.
     room: usize,
+    /// The calls so far.
     calls: Calls,
     ghost within: { vec_len bytes ≤ room },
     ghost reserved: { room ≤ vec_capacity bytes },
@@ -24,7 +27,7 @@ impl MemSink {
     /// 1, will fail.
     ///
     /// # Errors
-    /// Want of memory alone. A write takes none.
+    /// Out of memory alone. A write takes none.
     pub fn new(alloc: Global, room: u64, failing: Vec<u64>) -> Result<MemSink, AllocError>
         ensures written { IfOk result (λ sink. written_bytes sink ≡ []) }
         ensures room { IfOk result (λ sink. room_of sink ≡ room) }

@@ -30,7 +30,7 @@ pub trait Source {
     /// The bytes that each name holds, or none, where files are told. It never changes.
     ghost held: { Self → Option (List ℕ → Option (List ℕ)) } = { λ _. None };
 
-    /// Moves the first bytes that are left into the front of `buf`, and answers how many: 0 only where `buf` is
+    /// Moves the first bytes that are left to the start of `buf`, and answers how many: 0 only where `buf` is
     /// empty or nothing is left. The rest of `buf` may hold anything.
     ///
     /// # Errors
@@ -66,8 +66,7 @@ pub trait Sink {
     /// How many calls failed.
     ghost faults: { Self → ℕ };
 
-    /// Takes bytes from the front of `piece`, in order, and answers how many: at least one of a piece that is not
-    /// empty.
+    /// Takes the first bytes of `piece`, in order, and answers how many: at least one of a piece that is not empty.
     ///
     /// # Errors
     /// `Failed` only where the count of faults rose. No byte of `piece` is then written.

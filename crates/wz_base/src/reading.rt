@@ -10,7 +10,7 @@ use std::alloc::{AllocError, Global};
 const PIECE: usize = 4096;
 
 /// Why a file was not read whole. The earlier of two causes is answered: no file, then for each piece a fault,
-/// a file that is too long, and want of memory.
+/// a file that is too long, and out of memory.
 #[derive(Clone, Copy, Debug, PartialEq, Eq)]
 pub enum ReadError {
     /// There is no file of that name, and the count of misses rose.
@@ -19,7 +19,7 @@ pub enum ReadError {
     ReadFault,
     /// The file has more bytes than the limit.
     TooLong,
-    /// No memory was left for the bytes.
+    /// Out of memory for the bytes.
     NoMemory,
 }
 
@@ -55,7 +55,7 @@ pub fn read_whole<F: Files>(
     }
 }
 
-// Reads what is left of the current file.
+/// Reads what is left of the current file (apart, since a loop has its own contract).
 fn read_rest<F: Files>(alloc: Global, files: &mut F, limit: u64) -> Result<Vec<u8>, ReadError>
     ensures whole { IfOk result (λ bytes. IsLeft (F.left files.old) bytes.items) }
     ensures within { IfOk result (λ bytes. length bytes.items ≤ limit) }

@@ -1,9 +1,9 @@
 //! Worked cases, with ample memory.
-use crate::{MemFiles, MemSink, ReadError, WriteError, read_whole, write_all};
+use crate::{LineBuffer, MemFiles, MemSink, ReadError, WriteError, read_whole, write_all};
 use std::alloc::Global;
 use std::test::Fail;
 
-// What a case reads, and what comes of it.
+/// What a case reads, and what comes of it.
 #[derive(Clone, Copy)]
 struct Case<'a> {
     name: &'a str,
@@ -13,7 +13,7 @@ struct Case<'a> {
     error: Option<ReadError>,
 }
 
-// So many bytes, each its place modulo 251.
+/// So many bytes, each its place modulo 251.
 fn counted(alloc: Global, size: usize) -> Result<Vec<u8>, Fail> {
     let mut bytes = Vec::new(alloc);
     for place in 0..size {
@@ -22,7 +22,7 @@ fn counted(alloc: Global, size: usize) -> Result<Vec<u8>, Fail> {
     Ok(bytes)
 }
 
-// One file, named `a`.
+/// One file, named `a`.
 fn one_file(alloc: Global, bytes: Vec<u8>) -> Result<Vec<(String, Vec<u8>)>, Fail> {
     let mut files = Vec::new(alloc);
     files.push((String::from_str(alloc, "a")?, bytes))?;
@@ -171,5 +171,27 @@ fn a_later_write_that_fails_leaves_a_prefix(rt: HostRuntime) -> Result<(), Fail>
         assert_eq!(rt; write_all(&mut sink, b"abcde"), want, "room {room}");
         assert_eq!(rt; sink.bytes(), written, "room {room}");
     }
+    Ok(())
+}
+
+#[test]
+fn lines_are_written_in_whole_pieces(rt: HostRuntime) -> Result<(), Fail> {
+    let short = vec![in rt.alloc(); b'a'; 5000]?;
+    let long = vec![in rt.alloc(); b'b'; 9000]?;
+
+    // What waits is written before a line that does not fit after it, and a line longer than a piece by itself.
+    let mut sink = MemSink::new(rt.alloc(), 65536, [3].to_vec(rt.alloc())?)?;
+    let mut lines = LineBuffer::new(rt.alloc())?;
+    assert_eq!(rt; lines.add(&short, &mut sink), Ok(()));
+    assert_eq!(rt; sink.bytes().len(), 0);
+    assert_eq!(rt; lines.add(&short, &mut sink), Ok(()));
+    assert_eq!(rt; sink.bytes(), short.as_slice());
+
+    // The third call of the sink fails: the second piece stands, and the long line is not there.
+    assert_eq!(rt; lines.add(&long, &mut sink), Err(WriteError::WriteFault));
+    assert_eq!(rt; sink.bytes().len(), 10000);
+    assert_eq!(rt; lines.add(&short, &mut sink), Ok(()));
+    assert_eq!(rt; lines.flush(&mut sink), Ok(()));
+    assert_eq!(rt; sink.bytes().len(), 15000);
     Ok(())
 }

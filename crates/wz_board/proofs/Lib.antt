@@ -1,12 +1,12 @@
 mod Causes
+mod Cuts
 mod Each
-mod Fronts
 mod Heads
-mod Lines
 mod Listed
 mod Places
 mod Ran
 mod Runs
+mod Scripts
 mod Shown
 mod Spaces
 mod Used

@@ -3,22 +3,22 @@ use Rattle.std.proofs.Common.{◌≡◌, ◌≤◌, ◌<◌, ◌+◌, ℕ, zero,
 use Rattle.std.proofs.lemmas.Bool.{cond-true, cond-false, lt-ltb, le-ltb}
 use Rattle.avr_table.specs.declared.instr.Instr.{Instr}
 use Rattle.avr_table.specs.declared.fault.DecodeFault.{DecodeFault}
+use Rattle.wz_base.specs.Lines.{Gathers}
 use Rattle.wz_base.specs.Whole.{Appends, AppendsFront}
+use Rattle.wz_base.proofs.Gathered.{front_before, gathers_none, gathers_then, gathers_written, gathers_stopped}
 use Rattle.wz_board.specs.Listing.{entry_text, listed, listing, said_at, used, words_said}
-use Rattle.wz_board.proofs.Fronts.{front_then, front_before}
-use Rattle.wz_board.proofs.Runs.{Appends-then, Appends-none}
 
--- some lines are written, and those from a place on make the whole listing behind them
-pub record ListedSoFar (image : List ℕ) (at : ℕ) (old now : Option (List ℕ)) : Type 0 where
+-- some lines are written or wait, and those from a place on make the whole listing after them
+pub record ListedSoFar (image : List ℕ) (at : ℕ) (waiting : List ℕ) (old now : Option (List ℕ)) : Type 0 where
   pub left : ℕ
   pub enough : used image ≤ at + left
   pub done : List ℕ
-  pub written : Appends old done now
+  pub gathered : Gathers [] done waiting old now
   pub so_far : done ++ listed image left at ≡ listing image
 
-pub listed_none : (image : List ℕ) (old : Option (List ℕ)) → ListedSoFar image 0 old old
+pub listed_none : (image : List ℕ) (old : Option (List ℕ)) → ListedSoFar image 0 [] old old
 unfolding listing
-listed_none image old = record { left = used image; enough = omega arith; done = []; written = Appends-none old; so_far = refl }
+listed_none image old = record { left = used image; enough = omega arith; done = []; gathered = gathers_none [] old; so_far = refl }
 
 listed_on : (image : List ℕ) (n at : ℕ) (said : Result Instr DecodeFault) → at < used image → said ≡ said_at image at → listed image (suc n) at ≡ entry_text image at said ++ listed image n (at + words_said said)
 unfolding listed
@@ -30,15 +30,15 @@ unfolding listed
 listed_end image zero at past = refl
 listed_end image (suc n) at past = cond-false _ _ _ (le-ltb _ _ past)
 
-more : (image : List ℕ) (at at' left : ℕ) (done : List ℕ) (old mid new : Option (List ℕ)) (said : Result Instr DecodeFault)
-    → used image ≤ at + left → Appends old done mid → done ++ listed image left at ≡ listing image → at < used image → said ≡ said_at image at → at' ≡ at + words_said said → 1 ≤ words_said said
-    → Appends mid (entry_text image at said) new → ListedSoFar image at' old new
-more image at at' zero done old mid new said enough written so_far below is next some line = absurd (omega (arith, enough, below))
-more image at at' (suc n) done old mid new said enough written so_far below is next some line = record {
+more : (image : List ℕ) (at at' left : ℕ) (done waiting waiting' : List ℕ) (old mid new : Option (List ℕ)) (said : Result Instr DecodeFault)
+    → used image ≤ at + left → Gathers [] done waiting old mid → done ++ listed image left at ≡ listing image → at < used image → said ≡ said_at image at → at' ≡ at + words_said said → 1 ≤ words_said said
+    → Gathers waiting (entry_text image at said) waiting' mid new → ListedSoFar image at' waiting' old new
+more image at at' zero done waiting waiting' old mid new said enough gathered so_far below is next some line = absurd (omega (arith, enough, below))
+more image at at' (suc n) done waiting waiting' old mid new said enough gathered so_far below is next some line = record {
   left = n;
   enough = omega (arith, enough, next, some);
   done = done ++ entry_text image at said;
-  written = Appends-then old mid new done (entry_text image at said) written line;
+  gathered = gathers_then [] done waiting (entry_text image at said) waiting' old mid new gathered line;
   so_far =
       append_assoc done (entry_text image at said) (listed image n at')
       ∙ ap (λ (k : ℕ). done ++ (entry_text image at said ++ listed image n k)) next
@@ -46,29 +46,19 @@ more image at at' (suc n) done old mid new said enough written so_far below is n
       ∙ so_far;
 }
 
--- one more line is written
-pub listed_more : (image : List ℕ) (at at' : ℕ) (old mid new : Option (List ℕ)) (said : Result Instr DecodeFault)
-    → ListedSoFar image at old mid → at < used image → said ≡ said_at image at → at' ≡ at + words_said said → 1 ≤ words_said said
-    → Appends mid (entry_text image at said) new → ListedSoFar image at' old new
-listed_more image at at' old mid new said far = more image at at' far.left far.done old mid new said far.enough far.written far.so_far
+-- one more line is written or waits
+pub listed_more : (image : List ℕ) (at at' : ℕ) (waiting waiting' : List ℕ) (old mid new : Option (List ℕ)) (said : Result Instr DecodeFault)
+    → ListedSoFar image at waiting old mid → at < used image → said ≡ said_at image at → at' ≡ at + words_said said → 1 ≤ words_said said
+    → Gathers waiting (entry_text image at said) waiting' mid new → ListedSoFar image at' waiting' old new
+listed_more image at at' waiting waiting' old mid new said far = more image at at' far.left far.done waiting waiting' old mid new said far.enough far.gathered far.so_far
 
-cut : (image : List ℕ) (at left : ℕ) (done : List ℕ) (old mid new : Option (List ℕ)) (said : Result Instr DecodeFault)
-    → used image ≤ at + left → Appends old done mid → done ++ listed image left at ≡ listing image → at < used image → said ≡ said_at image at
-    → AppendsFront mid (entry_text image at said) new → AppendsFront old (listing image) new
-cut image at zero done old mid new said enough written so_far below is line = absurd (omega (arith, enough, below))
-cut image at (suc n) done old mid new said enough written so_far below is line =
-    let rest = listed image n (at + words_said said) in
-    let whole : done ++ (entry_text image at said ++ rest) ≡ listing image = ap (λ (lines : List ℕ). done ++ lines) (sym (listed_on image n at said below is)) ∙ so_far in
-    rw (← whole) (front_then old mid new done (entry_text image at said ++ rest) written (front_before mid new (entry_text image at said) rest line))
-
--- a line is cut short
-pub listed_cut : (image : List ℕ) (at : ℕ) (old mid new : Option (List ℕ)) (said : Result Instr DecodeFault)
-    → ListedSoFar image at old mid → at < used image → said ≡ said_at image at
-    → AppendsFront mid (entry_text image at said) new → AppendsFront old (listing image) new
-listed_cut image at old mid new said far = cut image at far.left far.done old mid new said far.enough far.written far.so_far
+-- what waits is cut short
+pub listed_cut : (image : List ℕ) (at : ℕ) (waiting : List ℕ) (old mid new : Option (List ℕ)) → ListedSoFar image at waiting old mid → AppendsFront mid waiting new → AppendsFront old (listing image) new
+listed_cut image at waiting old mid new far last =
+    rw (← far.so_far) (front_before old new far.done (listed image far.left at) (gathers_stopped [] far.done waiting old mid new far.gathered last))
 
 -- all lines are written
-pub listed_all : (image : List ℕ) (at : ℕ) (old now : Option (List ℕ)) → ListedSoFar image at old now → used image ≤ at → Appends old (listing image) now
-listed_all image at old now far past =
+pub listed_all : (image : List ℕ) (at : ℕ) (waiting : List ℕ) (old mid new : Option (List ℕ)) → ListedSoFar image at waiting old mid → used image ≤ at → Appends mid waiting new → Appends old (listing image) new
+listed_all image at waiting old mid new far past last =
     let whole : far.done ≡ listing image = sym (append-nil far.done) ∙ ap (λ (lines : List ℕ). far.done ++ lines) (sym (listed_end image far.left at past)) ∙ far.so_far in
-    rw (← whole) far.written
+    rw (← whole) (gathers_written [] far.done waiting old mid new far.gathered last)

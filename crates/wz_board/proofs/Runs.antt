@@ -1,10 +1,5 @@
 -- Runs that go on from what is done.
-use Rattle.std.proofs.lemmas.List.{length-append, take-append-le}
-use Rattle.std.proofs.Math.Seq.{take-append-add}
-use Rattle.std.specs.Prelude.{Vec}
-use Rattle.std.specs.declared.alloc.Global.{Global}
-use Rattle.wz_board.specs.Script.{lists}
-use Rattle.std.proofs.Common.{arith, add-one, take, ◌+◌, ◌≤◌, ◌≡◌, ℕ, suc, ◌<◌, length, get_or, drop, drop-cons, append-nil, List, [], ◌∷◌, ◌++◌, Option, None, Some, Ok, Err, refl, ap, sym, ◌∙◌, append_assoc}
+use Rattle.std.proofs.Common.{◌≡◌, ℕ, suc, ◌<◌, length, get_or, drop, drop-cons, append-nil, List, [], ◌∷◌, ◌++◌, Option, None, Some, Ok, Err, refl, ap, sym, ◌∙◌, append_assoc}
 use Rattle.board_bus.specs.declared.event.BusEvent.{BusEvent}
 use Rattle.board_bus.specs.declared.event.BusAnswer.{BusAnswer}
 use Rattle.chip_sheet.specs.declared.stop.Unbuilt.{Unbuilt}
@@ -15,10 +10,12 @@ use Rattle.chip_sheet.specs.BuiltStops.{unbuilt}
 use Rattle.chip_sheet.specs.BuiltAnswers.{answered}
 use Rattle.wz_board.specs.declared.session.Halt.{Halt}
 use Rattle.wz_board.specs.declared.session.Halt.TheVariants.{Stopped, WriteFault, NoMemory}
-use Rattle.wz_base.specs.Whole.{Appends, AppendsFront}
+use Rattle.wz_base.specs.Lines.{Gathers}
+use Rattle.wz_base.specs.Whole.{AppendsFront}
+use Rattle.wz_base.proofs.Gathered.{front_before, gathers_none, gathers_then, gathers_cut, gathers_front, gathers_stopped}
 use Rattle.wz_board.specs.Session.{Halts}
 use Rattle.wz_board.specs.Text.{line_text}
-use Rattle.wz_board.specs.Run.{Line, line_after, before, above, Run, run_after, GivesLine, GivesText, Gives}
+use Rattle.wz_board.specs.Run.{Line, line_after, before, above, Run, run_after, GivesLine, GivesText, Keeps}
 
 -- a line behind answers that are there already
 abbrev pub behind : List BusAnswer → Line → Line
@@ -65,15 +62,14 @@ left_goes_on whole answers past es so_far = let on = line_goes_on past es in (on
 abbrev pub run_behind : List ℕ → Run → Run
 run_behind done run = record { past = run.past; text = done ++ run.text; stop = run.stop }
 
--- some text is written, and what is left makes the whole run behind it
-pub record LinesSoFar (whole left : Run) (old now : Option (List ℕ)) : Type 0 where
+-- some text is written or waits, and what is left makes the whole run after it
+pub record LinesSoFar (whole left : Run) (waiting : List ℕ) (old now : Option (List ℕ)) : Type 0 where
   pub done : List ℕ
-  pub written : Appends old done now
+  pub gathered : Gathers [] done waiting old now
   pub so_far : run_behind done left ≡ whole
 
-pub Appends-then : (old mid new : Option (List ℕ)) (a b : List ℕ) → Appends old a mid → Appends mid b new → Appends old (a ++ b) new
-Appends-then None mid new a b h e = rw h at e
-Appends-then (Some w) mid new a b h e = (rw h at e) ∙ ap Some (append_assoc w a b)
+pub lines_none : (whole : Run) (old : Option (List ℕ)) → LinesSoFar whole whole [] old old
+lines_none whole old = record { done = []; gathered = gathers_none [] old; so_far = refl }
 
 -- a line with no stop, and then the others
 run_on : (past : Past) (line : List BusEvent) (ls : List (List BusEvent)) → (line_after past line).stop ≡ None
@@ -88,12 +84,12 @@ run_stops past line ls s h = ap (λ o. above (line_after past line) o (run_after
 run_behind-append : (a b : List ℕ) (run : Run) → run_behind a (run_behind b run) ≡ run_behind (a ++ b) run
 run_behind-append a b run = ap (λ t. record { past = run.past; text = t; stop = run.stop }) (sym (append_assoc a b run.text))
 
--- one more line is written
-pub lines_more : (whole : Run) (line : List BusEvent) (ls : List (List BusEvent)) (past past' : Past) (old mid new : Option (List ℕ)) (u : Unit)
-    → GivesText (line_after past line) (Ok u) past' mid new → LinesSoFar whole (run_after past (line ∷ ls)) old mid → LinesSoFar whole (run_after past' ls) old new
-lines_more whole line ls past past' old mid new u gives far = record {
+-- one more line is written or waits
+pub lines_more : (whole : Run) (line : List BusEvent) (ls : List (List BusEvent)) (past past' : Past) (waiting waiting' : List ℕ) (old mid new : Option (List ℕ)) (u : Unit)
+    → GivesText (line_after past line) (Ok u) past' waiting waiting' mid new → LinesSoFar whole (run_after past (line ∷ ls)) waiting old mid → LinesSoFar whole (run_after past' ls) waiting' old new
+lines_more whole line ls past past' waiting waiting' old mid new u gives far = record {
   done = far.done ++ line_text (line_after past line).answers;
-  written = Appends-then old mid new _ _ far.written gives.2;
+  gathered = gathers_then [] far.done waiting (line_text (line_after past line).answers) waiting' old mid new far.gathered gives.2;
   so_far = rw gives.1 (sym (run_behind-append far.done (line_text (line_after past line).answers) (run_after (line_after past line).past ls)) ∙ ap (run_behind far.done) (sym (run_on past line ls gives.0)) ∙ far.so_far);
 }
 
@@ -121,41 +117,55 @@ begins l (Some s) rest h = record { past = ([], refl); more = []; text = sym (ap
 goes_on_then : (a b c : Past) → GoesOn a b → GoesOn b c → GoesOn a c
 goes_on_then a b c h k = (k.0 ++ h.0, k.1 ∙ ap (λ p. k.0 ++ p) h.1 ∙ sym (append_assoc k.0 h.0 a))
 
-pub Appends-none : (mid : Option (List ℕ)) → Appends mid [] mid
-Appends-none None = refl
-Appends-none (Some w) = ap Some (sym (append-nil w))
-
--- a front of a line's text, behind what is written, is a front of the whole text
-front_of : (whole : Run) (run : Run) (l : Line) (done : List ℕ) (past : Past) (old mid new : Option (List ℕ)) (n : ℕ)
-    → Begins l run → run_behind done run ≡ whole → Appends old done mid → GoesOn past l.past → n ≤ length (line_text l.answers) → Appends mid (take n (line_text l.answers)) new
+-- a prefix of what is done and of a line after it is a prefix of the whole text
+front_of : (whole : Run) (run : Run) (l : Line) (done : List ℕ) (past : Past) (old new : Option (List ℕ))
+    → Begins l run → run_behind done run ≡ whole → GoesOn past l.past → AppendsFront old (done ++ line_text l.answers) new
     → GoesOn past whole.past × AppendsFront old whole.text new
-front_of whole run l done past old mid new n b so_far written on le front =
-    let text : whole.text ≡ done ++ (line_text l.answers ++ b.more) = sym (ap (λ (r : Run). r.text) so_far) ∙ ap (λ t. done ++ t) b.text in
-    let fits : length done + n ≤ length whole.text = rw (text, length-append, length-append) (omega arith) in
-    let same : take (length done + n) whole.text ≡ done ++ take n (line_text l.answers) = rw text (take-append-add done _ n ∙ ap (λ t. done ++ t) (take-append-le n (line_text l.answers) b.more le)) in (
+front_of whole run l done past old new b so_far on front =
+    let text : (done ++ line_text l.answers) ++ b.more ≡ whole.text =
+    append_assoc done (line_text l.answers) b.more ∙ ap (λ (t : List ℕ). done ++ t) (sym b.text) ∙ ap (λ (r : Run). r.text) so_far in (
       rw (← ap (λ (r : Run). r.past) so_far) (goes_on_then past l.past run.past on b.past),
-      (length done + n, fits, rw same (Appends-then old mid new done (take n (line_text l.answers)) written front)),
+      rw text at (front_before old new (done ++ line_text l.answers) b.more front),
     )
 
--- a line that was not written to its end ends the run
-pub lines_halt : (whole : Run) (line : List BusEvent) (ls : List (List BusEvent)) (past past' : Past) (old mid new : Option (List ℕ)) (halt : Halt)
-    → GivesText (line_after past line) (Err halt) past' mid new → LinesSoFar whole (run_after past (line ∷ ls)) old mid → Gives whole (Err halt) past' old new
-lines_halt whole line ls past past' old mid new (Stopped s) gives far =
+-- a line whose text was not added ends the run
+pub lines_halt : (whole : Run) (line : List BusEvent) (ls : List (List BusEvent)) (past past' : Past) (waiting waiting' : List ℕ) (old mid new : Option (List ℕ)) (halt : Halt)
+    → GivesText (line_after past line) (Err halt) past' waiting waiting' mid new → LinesSoFar whole (run_after past (line ∷ ls)) waiting old mid → Keeps whole (Err halt) past' waiting' old new
+lines_halt whole line ls past past' waiting waiting' old mid new (Stopped s) gives far =
     let l = line_after past line in
     let ends : run_behind far.done (record { past = l.past; text = line_text l.answers; stop = Some s }) ≡ whole =
     ap (run_behind far.done) (sym (run_stops past line ls s gives.0)) ∙ far.so_far in (
       sym (ap (λ (r : Run). r.stop) ends),
       gives.1 ∙ ap (λ (r : Run). r.past) ends,
-      rw (ap (λ (r : Run). r.text) ends) at (Appends-then old mid new far.done (line_text l.answers) far.written gives.2),
+      rw (ap (λ (r : Run). r.text) ends) at (gathers_then [] far.done waiting (line_text l.answers) waiting' old mid new far.gathered gives.2),
     )
-lines_halt whole line ls past past' old mid new WriteFault gives far =
+lines_halt whole line ls past past' waiting waiting' old mid new WriteFault gives far =
     let l = line_after past line in
-    front_of whole (run_after past (line ∷ ls)) l far.done past' old mid new gives.1.0 (begins l l.stop (run_after l.past ls) (run_goes_on l.past ls)) far.so_far far.written gives.0 gives.1.1 gives.1.2
-lines_halt whole line ls past past' old mid new NoMemory gives far =
+    front_of whole (run_after past (line ∷ ls)) l far.done past' old new (begins l l.stop (run_after l.past ls) (run_goes_on l.past ls)) far.so_far gives.0
+    (gathers_cut [] far.done waiting (line_text l.answers) old mid new far.gathered gives.1)
+lines_halt whole line ls past past' waiting waiting' old mid new NoMemory gives far =
     let l = line_after past line in
-    rw gives.1 (front_of whole (run_after past (line ∷ ls)) l far.done past' old mid mid 0 (begins l l.stop (run_after l.past ls) (run_goes_on l.past ls)) far.so_far far.written gives.0 (omega arith) (Appends-none mid))
+    rw gives.1 (front_of whole (run_after past (line ∷ ls)) l far.done past' old mid (begins l l.stop (run_after l.past ls) (run_goes_on l.past ls)) far.so_far gives.0
+    (front_before old mid far.done (line_text l.answers) (gathers_front [] far.done waiting old mid far.gathered)))
 
--- the line at a place, and those after it
-pub lists-drop : (lines : List (Vec BusEvent Global)) (i : ℕ) (v : Vec BusEvent Global) (line : List BusEvent) → i < length lines → v ≡ get_or lines i v → line ≡ v.items → lists (drop i lines) ≡ line ∷ lists (drop (i + 1) lines)
-lists-drop lines i v line below at items =
-    rw add-one (ap lists (drop-cons lines i v below) ∙ ap (λ (l : List BusEvent). l ∷ lists (drop (suc i) lines)) (ap (λ (w : Vec BusEvent Global). w.items) (sym at) ∙ sym items))
+-- the run is given up before the next line
+pub lines_given_up : (whole : Run) (past : Past) (ls : List (List BusEvent)) (waiting : List ℕ) (old now : Option (List ℕ)) → LinesSoFar whole (run_after past ls) waiting old now → GoesOn past whole.past × AppendsFront old whole.text now
+lines_given_up whole past ls waiting old now far =
+    let run = run_after past ls in (
+      rw (← ap (λ (r : Run). r.past) far.so_far) (run_goes_on past ls),
+      rw (ap (λ (r : Run). r.text) far.so_far) at (front_before old now far.done run.text (gathers_front [] far.done waiting old now far.gathered)),
+    )
+
+-- what waits at the end of a whole run is cut short
+pub end_cut : (run : Run) (past : Past) (waiting : List ℕ) (old mid new : Option (List ℕ)) → past ≡ run.past → Gathers [] run.text waiting old mid → AppendsFront mid waiting new → GoesOn past run.past × AppendsFront old run.text new
+end_cut run past waiting old mid new same gathered last =
+    (([], sym same), gathers_stopped [] run.text waiting old mid new gathered last)
+
+-- no line is left
+pub lines_end : (whole : Run) (past : Past) (ls : List (List BusEvent)) (waiting : List ℕ) (old now : Option (List ℕ)) (u : Unit) → ls ≡ [] → LinesSoFar whole (run_after past ls) waiting old now → Keeps whole (Ok u) past waiting old now
+lines_end whole past ls waiting old now u none far =
+    let ends : run_behind far.done (run_after past []) ≡ whole = ap (λ (rest : List (List BusEvent)). run_behind far.done (run_after past rest)) (sym none) ∙ far.so_far in (
+      sym (ap (λ (r : Run). r.stop) ends),
+      ap (λ (r : Run). r.past) ends,
+      rw (sym (append-nil far.done) ∙ ap (λ (r : Run). r.text) ends) at far.gathered,
+    )

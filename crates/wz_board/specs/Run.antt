@@ -8,6 +8,7 @@ use Rattle.chip_sheet.specs.Past.{Past, GoesOn}
 use Rattle.chip_sheet.specs.BuiltAnswers.{built_answer}
 use Rattle.chip_sheet.specs.BuiltStops.{unbuilt}
 use Rattle.chip_sheet.specs.BuiltAnswers.{answered}
+use Rattle.wz_base.specs.Lines.{Gathers}
 use Rattle.wz_base.specs.Whole.{Appends, AppendsFront}
 use Rattle.wz_board.specs.declared.session.Halt.{Halt}
 use Rattle.wz_board.specs.declared.session.Halt.TheVariants.{Stopped, WriteFault, NoMemory}
@@ -55,14 +56,23 @@ run_after past [] = record { past = past; text = []; stop = None }
 run_after past (l ∷ ls) =
     let line = line_after past l in above line line.stop (run_after line.past ls)
 
--- What the code gives of a run: the whole of it, or a front of its text and of its history where a write failed or memory
--- was not there.
+-- What the code gives of a run: the whole of it, or a prefix of its text and of its history where a write failed or memory ran
+-- out.
 abbrev pub Gives : Run → Result Unit Halt → Past → Option (List ℕ) → Option (List ℕ) → Type 0
 Gives run (Ok u) past old new = (run.stop ≡ None) × (past ≡ run.past) × Appends old run.text new
 Gives run (Err (Stopped s)) past old new =
     (run.stop ≡ Some s) × (past ≡ run.past) × Appends old run.text new
 Gives run (Err WriteFault) past old new = GoesOn past run.past × AppendsFront old run.text new
 Gives run (Err NoMemory) past old new = GoesOn past run.past × AppendsFront old run.text new
+
+-- The same, where the end of the text may wait.
+abbrev pub Keeps : Run → Result Unit Halt → Past → List ℕ → Option (List ℕ) → Option (List ℕ) → Type 0
+Keeps run (Ok u) past waiting old new =
+    (run.stop ≡ None) × (past ≡ run.past) × Gathers [] run.text waiting old new
+Keeps run (Err (Stopped s)) past waiting old new =
+    (run.stop ≡ Some s) × (past ≡ run.past) × Gathers [] run.text waiting old new
+Keeps run (Err WriteFault) past waiting old new = GoesOn past run.past × AppendsFront old run.text new
+Keeps run (Err NoMemory) past waiting old new = GoesOn past run.past × AppendsFront old run.text new
 
 -- What the code gives of a line.
 abbrev pub GivesLine : Line → Result Unit Halt → Past → List BusAnswer → Type 0
@@ -73,15 +83,15 @@ GivesLine line (Err (Stopped s)) past answers =
 GivesLine line (Err WriteFault) past answers = ⊥
 GivesLine line (Err NoMemory) past answers = GoesOn past line.past
 
--- What the code gives of a line that it writes.
-abbrev pub GivesText : Line → Result Unit Halt → Past → Option (List ℕ) → Option (List ℕ) → Type 0
-GivesText line (Ok u) past old new =
-    (line.stop ≡ None) × (past ≡ line.past) × Appends old (line_text line.answers) new
-GivesText line (Err (Stopped s)) past old new =
-    (line.stop ≡ Some s) × (past ≡ line.past) × Appends old (line_text line.answers) new
-GivesText line (Err WriteFault) past old new =
-    GoesOn past line.past × AppendsFront old (line_text line.answers) new
-GivesText line (Err NoMemory) past old new = GoesOn past line.past × (new ≡ old)
+-- What the code gives of a line whose text it adds to what waits.
+abbrev pub GivesText : Line → Result Unit Halt → Past → List ℕ → List ℕ → Option (List ℕ) → Option (List ℕ) → Type 0
+GivesText line (Ok u) past before after old new =
+    (line.stop ≡ None) × (past ≡ line.past) × Gathers before (line_text line.answers) after old new
+GivesText line (Err (Stopped s)) past before after old new =
+    (line.stop ≡ Some s) × (past ≡ line.past) × Gathers before (line_text line.answers) after old new
+GivesText line (Err WriteFault) past before after old new =
+    GoesOn past line.past × AppendsFront old (before ++ line_text line.answers) new
+GivesText line (Err NoMemory) past before after old new = GoesOn past line.past × (new ≡ old)
 
 -- The events of a past, in the order in which they happened.
 abbrev pub events_in : Past → List BusEvent

@@ -1,10 +1,8 @@
 -- Bus scripts. Lines end with LF or CR LF, and the last one may have no end. The tokens of a line stand between spaces: L and
 -- H, the select line going low and high, and two hexadecimal digits in either case, a byte.
-use Rattle.std.specs.Prelude.{◌≡◌, ◌+◌, drop, ℕ, Bool, true, false, not, ◌==◌, List, [], ◌∷◌, ◌++◌, map, filter, length, slice_index, Option, None, Some, option_map, option_and_then, Result, Ok, Err, if◌then◌else◌, Vec}
+use Rattle.std.specs.Prelude.{ℕ, Bool, true, false, not, ◌==◌, List, [], ◌∷◌, filter, length, slice_index, Option, None, Some, option_map, option_and_then, unwrap_or, Result, Ok, Err, if◌then◌else◌}
 use Rattle.std.specs.List.{slice_split}
-use Rattle.std.specs.Str.Lines.{lines, lines_of_parts}
-use Rattle.std.specs.Borrow.{Bor}
-use Rattle.std.specs.declared.alloc.Global.{Global}
+use Rattle.std.specs.Str.Lines.{lines}
 use Rattle.hex.specs.Hex.{decode_sized}
 use Rattle.hex.specs.declared.error.FromHexError.{FromHexError}
 use Rattle.board_bus.specs.declared.event.BusEvent.{BusEvent}
@@ -34,11 +32,6 @@ is_token text = not (length text == 0)
 abbrev pub tokens : List ℕ → List (List ℕ)
 tokens line = filter is_token (slice_split (λ b. b == 32) line)
 
--- A line, if there is one, before others.
-abbrev pub with_line : Option (List ℕ) → List (List ℕ) → List (List ℕ)
-with_line None rest = rest
-with_line (Some line) rest = line ∷ rest
-
 -- The events of a line, where each token is one.
 abbrev pub line_events : List ℕ → Option (List BusEvent)
 line_events line = each event_of (tokens line)
@@ -47,20 +40,6 @@ line_events line = each event_of (tokens line)
 abbrev pub script_lines : List ℕ → Option (List (List BusEvent))
 script_lines text = each line_events (lines text)
 
--- The line that the part at place i is, where these are the parts between line feeds: the lines from there on are it and
--- those of the parts behind it.
-abbrev pub IsLineAt : List (List ℕ) → ℕ → Option (List ℕ) → Type 0
-IsLineAt parts i line =
-    lines_of_parts (drop i parts) ≡ with_line line (lines_of_parts (drop (i + 1) parts))
-
--- The events of the lines from place i on, behind those of the lines before it, where each token is one.
-abbrev pub lines_from : List (List BusEvent) → List (List ℕ) → ℕ → Option (List (List BusEvent))
-lines_from front parts i = option_map (λ rest. front ++ rest) (each line_events (lines_of_parts (drop i parts)))
-
--- The texts that these slices show.
-abbrev pub texts : List (Bor (List ℕ)) → List (List ℕ)
-texts = map (λ t. t.now)
-
--- The events that these vectors hold.
-abbrev pub lists : List (Vec BusEvent Global) → List (List BusEvent)
-lists = map (λ v. v.items)
+-- The events of each line of a script in which each token is one.
+abbrev pub lines_in : List ℕ → List (List BusEvent)
+lines_in text = unwrap_or (script_lines text) []

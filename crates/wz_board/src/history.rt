@@ -15,6 +15,7 @@ pub struct Exchange {
     pub answer: BusAnswer,
 }
 
+/// The event at a place (apart, since a `Vec` inside a model is looked at through a slice).
 fn event_at(events: &[Exchange], place: usize) -> Option<Exchange>
     ensures { option_map entry_of result ≡ option_map entry_of (slice_get events.now place) }
 {
@@ -27,7 +28,9 @@ fn event_at(events: &[Exchange], place: usize) -> Option<Exchange>
 /// memory; `limit` is how many events it is meant to hold.
 #[derive(Drop)]
 pub struct History {
+    /// The events, the oldest first.
     events: Vec<Exchange>,
+    /// How many it is meant to hold.
     limit: u64,
 }
 
@@ -56,7 +59,7 @@ impl History {
     ///
     /// # Errors
     ///
-    /// Want of memory alone. Nothing has changed then.
+    /// Out of memory alone. Nothing has changed then.
     pub fn reserve(&mut self, events: u64) -> Result<(), AllocError>
         ensures ok { OnOk result (events ≤ self.new.spare) }
         ensures past { self.new.past ≡ self.old.past }

@@ -1,4 +1,4 @@
-// Laws of the definitions, each the contract of an empty function.
+//! Laws of the definitions, each the contract of an empty function.
 ghost use Rattle.wz_board.specs.Listing.{EndsBehindTheLastWord};
 ghost use Rattle.wz_board.specs.Run.{RunsTheEvents};
 
@@ -7,7 +7,7 @@ pub fn run_holds_the_events()
     ensures { RunsTheEvents }
 {}
 
-/// A listing ends behind the last word of flash other than FFFF: the word before its end is another one, and each word from
+/// A listing ends after the last word of flash other than FFFF: the word before its end is another one, and each word from
 /// there on is FFFF.
 pub fn listing_ends_behind_the_last_word()
     ensures { EndsBehindTheLastWord }

@@ -1,4 +1,5 @@
-//! The board runner's program: `bus SCRIPT` runs a bus script against the chip and prints what the chip answers.
+//! The board runner's program: `bus SCRIPT` runs a bus script against the chip and prints what the chip answers, `list HEX`
+//! lists the instructions of a firmware image.
 #![tactic(auto)]
 
 mod end;
@@ -31,6 +32,7 @@ fn main(rt: HostRuntime) -> ExitCode {
     let mut out = StdOut::new(io::writer(&rt));
     match quick::quick(rt.alloc(), &words, &mut files, &mut out) {
         Some(ended) => ExitCode::from(ended.status),
+        // Only the words of a live run will give `None`, and there is no such command yet.
         None => unreachable!(),
     }
 }

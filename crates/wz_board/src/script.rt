@@ -1,9 +1,8 @@
-// Bus scripts: lines of tokens.
-ghost use Rattle.std.specs.Prelude.{◌≡◌, ◌==◌, filter, IfOk, IsErrOf, None, ◌<◌, ◌+◌, length, OnOk};
-ghost use Rattle.std.specs.List.{slice_split};
-ghost use Rattle.std.specs.Option.{option_copied};
-ghost use Rattle.std.specs.Str.Lines.{strip_carriage_return, lines_of_parts};
-ghost use Rattle.wz_board.specs.Script.{is_token, event_of, each, lines_from, IsLineAt, line_events, script_lines, texts, lists};
+//! Bus scripts: lines of tokens. The lines are cut from the text as they are needed, so that they take no memory.
+ghost use Rattle.std.specs.Prelude.{◌≡◌, ◌∷◌, [], ◌==◌, IfOk, IfSome, IsErrOf, IsSome, IsTrue, MatchOption, None, Some, ◌<◌, ◌+◌, length, OnOk};
+ghost use Rattle.std.specs.List.{position, slice_split};
+ghost use Rattle.std.specs.Str.Lines.{lines, strip_carriage_return};
+ghost use Rattle.wz_board.specs.Script.{event_of, line_events, script_lines, tokens};
 ghost use Rattle.wz_board.specs.declared.script.ScriptError.TheVariants.{NoMemory};
 
 use chip_sheet::event::BusEvent;
@@ -14,7 +13,7 @@ use std::alloc::{AllocError, AllocFailed, Global};
 pub enum ScriptError {
     /// A token is none of those that are built.
     NotBuilt,
-    /// Memory was not there.
+    /// Out of memory.
     NoMemory,
 }
 
@@ -34,7 +33,7 @@ impl<T: Drop> From<AllocFailed<T>> for ScriptError {
     }
 }
 
-// The event of a token, if it is one.
+/// The event of a token, if it is one.
 fn event_of(token: &[u8]) -> Option<BusEvent>
     ensures { result ≡ event_of token.now }
 {
@@ -51,41 +50,25 @@ fn event_of(token: &[u8]) -> Option<BusEvent>
     }
 }
 
-// The parts of a text between the bytes `at`.
-fn parts(alloc: Global, text: &[u8], at: u8) -> Result<Vec<&[u8]>, AllocError>
-    ensures { IfOk result (λ v. texts v.items ≡ slice_split (λ b. b == at) text.now) }
+/// The first place of a byte in a text.
+fn place_of(text: &[u8], byte: u8) -> Option<usize>
+    ensures { result ≡ position (λ b. b == byte) text.now }
 {
-    text.split(|b| *b == at).collect(alloc)
+    text.iter().position(|b| *b == byte)
 }
 
-// The events of the tokens.
-fn events_of(alloc: Global, tokens: &[&[u8]]) -> Result<Vec<BusEvent>, ScriptError>
-    ensures ok { IfOk result (λ v. each event_of (filter is_token (texts tokens.now)) ≡ Some v.items) }
-    ensures not_built { IsErrOf result ScriptError.NotBuilt → each event_of (filter is_token (texts tokens.now)) ≡ None }
+/// A text up to the first place of a byte, and what stands after that place; `None` where the byte is not in it.
+fn cut(text: &[u8], byte: u8) -> Option<(&[u8], &[u8])>
+    ensures parts { MatchOption result (slice_split (λ b. b == byte) text.now ≡ text.now ∷ []) (λ p. slice_split (λ b. b == byte) text.now ≡ p.0.now ∷ slice_split (λ b. b == byte) p.1.now) }
+    ensures shorter { IfSome result (λ p. length p.1.now < length text.now) }
 {
-    let mut events = Vec::new(alloc);
-    for token in tokens {
-        if token.is_empty() {
-            continue;
-        }
-        match event_of(token) {
-            Some(e) => events.push(e)?,
-            None => return Err(ScriptError::NotBuilt),
-        }
+    match place_of(text, byte) {
+        Some(at) => Some((&text[..at], &text[at + 1..])),
+        None => None,
     }
-    Ok(events)
 }
 
-// The events of a line.
-fn line_events(alloc: Global, line: &[u8]) -> Result<Vec<BusEvent>, ScriptError>
-    ensures ok { IfOk result (λ v. line_events line.now ≡ Some v.items) }
-    ensures not_built { IsErrOf result ScriptError.NotBuilt → line_events line.now ≡ None }
-{
-    let tokens = parts(alloc, line, b' ')?;
-    events_of(alloc, &tokens)
-}
-
-// A line without the carriage return at its end, if it has one.
+/// A line without the carriage return at its end, if it has one.
 fn without_return(line: &[u8]) -> &[u8]
     ensures { result.now ≡ strip_carriage_return line.now }
 {
@@ -96,64 +79,84 @@ fn without_return(line: &[u8]) -> &[u8]
     }
 }
 
-// The line that a part between line feeds is. An empty last part is none, and only a part before a line feed loses its
-// carriage return.
-fn line_at<'a>(parts: &[&'a [u8]], i: usize) -> Option<&'a [u8]>
-    requires { i < length parts.now }
-    ensures { IsLineAt (texts parts.now) i (option_copied result) }
+/// The first line of a text, and the text after it; `None` where it has none. An empty rest is no line, and only a line that
+/// ends with a line feed loses its carriage return.
+pub fn first_line(text: &[u8]) -> Option<(&[u8], &[u8])>
+    ensures lines { MatchOption result (lines text.now ≡ []) (λ p. lines text.now ≡ p.0.now ∷ lines p.1.now) }
+    ensures shorter { IfSome result (λ p. length p.1.now < length text.now) }
 {
-    let part = parts[i];
-    if i + 1 < parts.len() {
-        Some(without_return(part))
-    } else if part.is_empty() {
+    match cut(text, b'\n') {
+        Some((line, rest)) => Some((without_return(line), rest)),
+        None if text.is_empty() => None,
+        None => Some((text, &text[text.len()..])),
+    }
+}
+
+/// The first token of a line, and what stands after it; `None` where it has none.
+fn first_token(line: &[u8]) -> Option<(&[u8], &[u8])>
+    ensures tokens { MatchOption result (tokens line.now ≡ []) (λ p. tokens line.now ≡ p.0.now ∷ tokens p.1.now) }
+    ensures shorter { IfSome result (λ p. length p.1.now < length line.now) }
+{
+    let mut rest = line;
+    while let Some((token, after)) = cut(rest, b' ') {
+        if !token.is_empty() {
+            return Some((token, after));
+        }
+        rest = after;
+    }
+    if rest.is_empty() {
         None
     } else {
-        Some(part)
+        Some((rest, &rest[rest.len()..]))
     }
 }
 
-// Adds the events of the line that a part is, if it is one.
-fn push_line_at(
-    alloc: Global,
-    parts: &[&[u8]],
-    i: usize,
-    lines: &mut Vec<Vec<BusEvent>>,
-) -> Result<(), ScriptError>
-    requires { i < length parts.now }
-    ensures ok { OnOk result (lines_from (lists lines.new.items) (texts parts.now) (i + 1) ≡ lines_from (lists lines.old.items) (texts parts.now) i) }
-    ensures not_built { IsErrOf result ScriptError.NotBuilt → lines_from (lists lines.old.items) (texts parts.now) i ≡ None }
+/// The events of a line.
+fn line_events(alloc: Global, line: &[u8]) -> Result<Vec<BusEvent>, ScriptError>
+    ensures ok { IfOk result (λ v. line_events line.now ≡ Some v.items) }
+    ensures not_built { IsErrOf result ScriptError.NotBuilt → line_events line.now ≡ None }
 {
-    match line_at(parts, i) {
-        Some(line) => {
-            let events = line_events(alloc, line)?;
-            lines.push(events)?;
-            Ok(())
+    let mut events = Vec::new(alloc);
+    let mut rest = line;
+    while let Some((token, after)) = first_token(rest) {
+        match event_of(token) {
+            Some(event) => events.push(event)?,
+            None => return Err(ScriptError::NotBuilt),
         }
-        None => Ok(()),
+        rest = after;
     }
+    Ok(events)
 }
 
-// The events of the lines that the parts between line feeds are.
-fn lines_of(alloc: Global, parts: &[&[u8]]) -> Result<Vec<Vec<BusEvent>>, ScriptError>
-    ensures ok { IfOk result (λ v. each line_events (lines_of_parts (texts parts.now)) ≡ Some (lists v.items)) }
-    ensures not_built { IsErrOf result ScriptError.NotBuilt → each line_events (lines_of_parts (texts parts.now)) ≡ None }
+/// The events of a line of a script that was checked.
+///
+/// # Errors
+///
+/// Out of memory alone.
+pub fn checked_events(alloc: Global, line: &[u8]) -> Result<Vec<BusEvent>, AllocError>
+    requires { IsSome (line_events line.now) }
+    ensures { IfOk result (λ v. line_events line.now ≡ Some v.items) }
 {
-    let mut lines = Vec::new(alloc);
-    for i in 0..parts.len() {
-        push_line_at(alloc, parts, i, &mut lines)?;
+    match line_events(alloc, line) {
+        Ok(events) => Ok(events),
+        Err(ScriptError::NotBuilt) => unreachable!(),
+        Err(ScriptError::NoMemory) => Err(AllocError),
     }
-    Ok(lines)
 }
 
-/// The events of each line of a script.
+/// Checks that each token of a script is one that is built: nothing runs where one is not.
 ///
 /// # Errors
 ///
 /// `NotBuilt` exactly where a token is none of those that are built, and `NoMemory`.
-pub fn script_lines(alloc: Global, text: &[u8]) -> Result<Vec<Vec<BusEvent>>, ScriptError>
-    ensures ok { IfOk result (λ v. script_lines text.now ≡ Some (lists v.items)) }
+pub fn check(alloc: Global, text: &[u8]) -> Result<(), ScriptError>
+    ensures ok { OnOk result (IsSome (script_lines text.now)) }
     ensures not_built { IsErrOf result ScriptError.NotBuilt → script_lines text.now ≡ None }
 {
-    let parts = parts(alloc, text, b'\n')?;
-    lines_of(alloc, &parts)
+    let mut rest = text;
+    while let Some((line, after)) = first_line(rest) {
+        line_events(alloc, line)?;
+        rest = after;
+    }
+    Ok(())
 }

@@ -1,6 +1,7 @@
-// A chip with its history.
+//! A chip with its history.
 ghost use Rattle.std.specs.Prelude.{◌≡◌, [], None, IfOk, OnOk, OnErr, IfErr};
 ghost use Rattle.chip_sheet.specs.BuiltLegal.{BuiltLegal};
+ghost use Rattle.wz_board.specs.declared.session.Halt.TheVariants.{WriteFault};
 
 use crate::history::{Exchange, History};
 use chip_core::Chip;
@@ -8,22 +9,33 @@ use chip_sheet::event::{BusAnswer, BusEvent};
 use chip_sheet::stop::Unbuilt;
 use std::alloc::Global;
 use std::marker::Model;
+use wz_base::WriteError;
 
 /// Why a script does not go on.
 #[derive(Clone, Copy, Debug, PartialEq, Eq)]
 pub enum Halt {
     /// The chip answered a stop.
     Stopped(Unbuilt),
-    /// The sink took no more.
+    /// A call of the sink failed, and its count of faults rose.
     WriteFault,
-    /// Memory was not there.
+    /// Out of memory.
     NoMemory,
+}
+
+impl From<WriteError> for Halt {
+    ghost from_gives = { λ _ e. e ≡ WriteFault };
+
+    fn from(_: WriteError) -> Self {
+        Halt::WriteFault
+    }
 }
 
 /// A chip that stands for its history, which is legal.
 #[derive(Drop)]
 pub struct Session {
+    /// The chip.
     chip: Chip,
+    /// What happened on its bus.
     history: History,
 }
 
@@ -57,7 +69,7 @@ impl Session {
     ///
     /// # Errors
     ///
-    /// The event's stop, or want of memory. The history is as before then.
+    /// The event's stop, or out of memory. The history is as before then.
     pub fn step(&mut self, e: BusEvent) -> Result<BusAnswer, Halt>
         requires { self.old.stopped ≡ None }
         ensures ok { IfOk result (λ a. Steps self.old.past e a self.new.past) }

@@ -1,9 +1,11 @@
+//! Whole commands over files and a sink in memory, with ample memory.
 use crate::end::{EndKind, QuickEnd, Refusal};
 use crate::quick::{TEXT_LIMIT, quick};
 use std::alloc::Global;
 use std::test::Fail;
 use wz_base::{MemFiles, MemSink};
 
+/// The words of a command line.
 fn words(alloc: Global, texts: &[&str]) -> Result<Vec<String>, Fail> {
     let mut words = Vec::new(alloc);
     for text in texts {
@@ -12,14 +14,14 @@ fn words(alloc: Global, texts: &[&str]) -> Result<Vec<String>, Fail> {
     Ok(words)
 }
 
-// One file of the name `s` that holds these bytes.
+/// One file of the name `s` that holds these bytes.
 fn one_file(alloc: Global, bytes: Vec<u8>) -> Result<Vec<(String, Vec<u8>)>, Fail> {
     let mut files = Vec::new(alloc);
     files.push((String::from_str(alloc, "s")?, bytes))?;
     Ok(files)
 }
 
-// Runs these words over that file; the reads and writes of these numbers fail.
+/// Runs these words over that file; the reads and writes of these numbers fail.
 fn run(
     alloc: Global,
     texts: &[&str],
@@ -28,7 +30,7 @@ fn run(
     out: &mut Vec<u8>,
 ) -> Result<Option<QuickEnd>, Fail> {
     let mut files = MemFiles::new(one_file(alloc, bytes)?, failing.0.to_vec(alloc)?);
-    let mut sink = MemSink::new(alloc, 4096, failing.1.to_vec(alloc)?)?;
+    let mut sink = MemSink::new(alloc, 65536, failing.1.to_vec(alloc)?)?;
     let words = words(alloc, texts)?;
     let ended = quick(alloc, &words, &mut files, &mut sink);
     out.extend_from_slice(sink.bytes())?;
@@ -119,7 +121,7 @@ fn refuses(rt: HostRuntime) -> Result<(), Fail> {
 }
 
 #[test]
-fn stops_at_the_limit_and_at_a_full_sink(rt: HostRuntime) -> Result<(), Fail> {
+fn stops_at_the_limit_and_at_a_failed_write(rt: HostRuntime) -> Result<(), Fail> {
     let mut out = Vec::new(rt.alloc());
     let long = vec![in rt.alloc(); b' '; TEXT_LIMIT as usize + 1]?;
     let ended = run(rt.alloc(), &["bus", "s"], long, (&[], &[]), &mut out)?;
@@ -132,12 +134,54 @@ fn stops_at_the_limit_and_at_a_full_sink(rt: HostRuntime) -> Result<(), Fail> {
     let ended = run(rt.alloc(), &["bus", "s"], bytes, (&[], &[1]), &mut none)?;
     assert_eq!(rt; none.len(), 0);
     assert_eq!(rt; ended.map(|e| (e.status, e.history.len())), Some((6, 1)));
+    Ok(())
+}
 
-    // The second line is not written: the history keeps its events, and the first line stands.
-    let mut front = Vec::new(rt.alloc());
-    let bytes = b"00\n00 00\n00".to_vec(rt.alloc())?;
-    let ended = run(rt.alloc(), &["bus", "s"], bytes, (&[], &[2]), &mut front)?;
-    assert_eq!(rt; front.as_slice(), b"FF\n".as_slice());
-    assert_eq!(rt; ended.map(|e| (e.status, e.history.len())), Some((6, 3)));
+#[test]
+fn writes_pieces_of_whole_lines(rt: HostRuntime) -> Result<(), Fail> {
+    // Each line is 3 bytes of text, so a piece of 8,192 has 2,730 lines. The second piece is not written: the first stands,
+    // and the history keeps the events of all lines that ran.
+    let mut script = Vec::new(rt.alloc());
+    for _ in 0..3000 {
+        script.extend_from_slice(b"00\n")?;
+    }
+    let mut prefix = Vec::new(rt.alloc());
+    let ended = run(rt.alloc(), &["bus", "s"], script, (&[], &[2]), &mut prefix)?;
+    assert_eq!(rt; prefix.len(), 8190);
+    assert!(rt; prefix.ends_with(b"FF\n"));
+    assert_eq!(rt; ended.map(|e| (e.status, e.history.len())), Some((6, 3000)));
+
+    // A line that is longer than a piece is written by itself, after what waited.
+    let mut long = b"00\n".to_vec(rt.alloc())?;
+    for _ in 0..3000 {
+        long.extend_from_slice(b"00 ")?;
+    }
+    let mut prefix = Vec::new(rt.alloc());
+    let ended = run(rt.alloc(), &["bus", "s"], long, (&[], &[2]), &mut prefix)?;
+    assert_eq!(rt; prefix.as_slice(), b"FF\n".as_slice());
+    assert_eq!(rt; ended.map(|e| (e.status, e.history.len())), Some((6, 3001)));
+    Ok(())
+}
+
+/// Sixteen bytes of 0, in hexadecimal digits.
+const ZEROS: &str = "00000000000000000000000000000000";
+
+#[test]
+fn lists_a_long_image_in_pieces(rt: HostRuntime) -> Result<(), Fail> {
+    // 1,024 words of 0, each a line of 15 bytes. A piece is written once fewer than 49 bytes, the longest line, are left of
+    // 8,192: after 543 lines.
+    let mut hex = Vec::new(rt.alloc());
+    for record in 0..128u32 {
+        let at = record * 16;
+        let sum = (16 + at / 256 + at % 256) % 256;
+        let line = format!(in rt.alloc(); ":10{:04X}00{}{:02X}\n", at, ZEROS, (256 - sum) % 256)?;
+        hex.extend_from_slice(line.as_bytes())?;
+    }
+    hex.extend_from_slice(b":00000001FF\n")?;
+    let mut prefix = Vec::new(rt.alloc());
+    let ended = run(rt.alloc(), &["list", "s"], hex, (&[], &[2]), &mut prefix)?;
+    assert_eq!(rt; prefix.len(), 8145);
+    assert!(rt; prefix.ends_with(b"021E: 0000 nop\n"));
+    assert_eq!(rt; ended.map(|e| e.status), Some(6));
     Ok(())
 }

@@ -1,10 +1,11 @@
-// The text of the answers of a line.
+//! The text of the answers of a line.
 ghost use Rattle.std.specs.Prelude.{◌≡◌, ◌<◌, IfOk, OnOk};
 ghost use Rattle.wz_board.specs.Text.{digit, line_text, printed, spaced, with_end, with_printed};
 
 use chip_sheet::event::BusAnswer;
 use std::alloc::{AllocError, Global};
 
+/// A hexadecimal digit, in upper case.
 pub fn digit(n: u8) -> u8
     requires { n < 16 }
     ensures { result ≡ digit n }
@@ -12,7 +13,7 @@ pub fn digit(n: u8) -> u8
     if n < 10 { b'0' + n } else { b'A' - 10 + n }
 }
 
-// Adds an answer to a line, behind a space where something stands before it.
+/// Adds an answer to a line, after a space where something stands before it.
 fn push_answer(text: &mut Vec<u8>, answer: BusAnswer) -> Result<(), AllocError>
     ensures { OnOk result (text.new.items ≡ with_printed text.old.items (printed answer)) }
 {
@@ -29,6 +30,7 @@ fn push_answer(text: &mut Vec<u8>, answer: BusAnswer) -> Result<(), AllocError>
     }
 }
 
+/// Adds a space where something stands before it.
 fn push_space(text: &mut Vec<u8>) -> Result<(), AllocError>
     ensures { OnOk result (text.new.items ≡ spaced text.old.items) }
 {
@@ -38,6 +40,7 @@ fn push_space(text: &mut Vec<u8>) -> Result<(), AllocError>
     Ok(())
 }
 
+/// Adds the line feed where something stands before it.
 fn end_line(text: &mut Vec<u8>) -> Result<(), AllocError>
     ensures { OnOk result (text.new.items ≡ with_end text.old.items) }
 {
@@ -51,7 +54,7 @@ fn end_line(text: &mut Vec<u8>) -> Result<(), AllocError>
 ///
 /// # Errors
 ///
-/// Want of memory alone.
+/// Out of memory alone.
 pub fn line_text(alloc: Global, answers: &[BusAnswer]) -> Result<Vec<u8>, AllocError>
     ensures { IfOk result (λ text. text.items ≡ line_text answers.now) }
 {

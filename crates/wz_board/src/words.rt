@@ -1,4 +1,4 @@
-// The words of the command line.
+//! The words of the command line.
 ghost use Rattle.std.specs.Prelude.{◌≡◌, map, string_bytes, option_map};
 ghost use Rattle.wz_board.specs.Words.{asked, command_of, is_operand, operand_of};
 
@@ -27,6 +27,7 @@ pub fn operand_of<'a>(command: &Command<'a>) -> &'a str
     }
 }
 
+/// Whether a word may be an operand: it is not empty and does not start with a dash.
 fn is_operand(word: &str) -> bool
     ensures { result ≡ is_operand word.now }
 {

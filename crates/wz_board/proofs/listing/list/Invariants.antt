@@ -4,7 +4,7 @@ use Rattle.wz_board.proofs.listing.list.Given as goal
 
 abbrev pub invariant-loop-at : goal.invariant-loop-at
 invariant-loop-at g l = record {
-  so_far : ListedSoFar l.image l.at (g.K.Sink.written l.fn.out) (g.K.Sink.written l.out);
+  so_far : ListedSoFar l.image l.at l.lines (g.K.Sink.written l.fn.out) (g.K.Sink.written l.out);
   faults : g.K.Sink.faults l.out ≡ g.K.Sink.faults l.fn.out;
 }
 

@@ -1,0 +1,5 @@
+mod Tables
+mod PlaceTable
+mod Steps
+mod BitBytes
+pub mod History

@@ -1,0 +1,5 @@
+use Rattle.sock_regs.proofs.Steps.{by_name}
+use Rattle.sock_regs.proofs.registers.SockRegs.rx_kilobytes.Goals as goal
+
+pub returns : goal.returns
+returns c = λ f held. (by_name c.args.self.now.bytes f held).rx
