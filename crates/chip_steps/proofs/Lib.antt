@@ -3,3 +3,6 @@ mod Writing
 mod Lists
 mod SendingSteps
 mod ReceivingSteps
+pub mod WindowSteps
+pub mod Elsewhere
+pub mod StopSteps

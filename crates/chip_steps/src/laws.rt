@@ -1,22 +1,33 @@
 //! The laws of the two directions.
-ghost use Rattle.std.specs.Prelude.{◌≡◌, ◌∷◌, ℕ, List, true, false};
+ghost use Rattle.std.specs.Prelude.{◌≡◌, ◌≢◌, ◌≤◌, ◌<◌, ◌/◌, ◌%◌, ◌==◌, ◌&&◌, ◌||◌, nat_lt, ◌∷◌, ℕ, List, length, Some, None, true, false};
+ghost use Rattle.board_bus.specs.declared.event.BusEvent.{BusEvent};
+ghost use Rattle.board_bus.specs.declared.event.BusAnswer.{BusAnswer};
+ghost use Rattle.chip_sheet.specs.declared.stop.ChipStop.TheVariants.{ReservedBlock, Pppoe, SizeWhileOpen};
+ghost use Rattle.chip_sheet.specs.declared.block.Block.TheVariants.{Reserved};
+ghost use Rattle.chip_sheet.specs.Stops.{where_it, overwrite, any_open, command_stop, command_facts, stop};
+ghost use Rattle.chip_sheet.specs.SocketBlock.{socket_register};
+ghost use Rattle.chip_sheet.specs.Windows as windows;
+ghost use Rattle.chip_sheet.specs.Streams as streams;
+ghost use Rattle.chip_sheet.specs.Sending as sends_of;
+ghost use Rattle.chip_sheet.specs.Names.{sn_cr};
+ghost use Rattle.chip_sheet.specs.Registers.{is_reset};
 ghost use Rattle.chip_sheet.specs.declared.event.Addr.{Addr};
 ghost use Rattle.chip_sheet.specs.declared.event.Entry.{Entry};
-ghost use Rattle.chip_sheet.specs.declared.event.Entry.TheVariants.{Link};
+ghost use Rattle.chip_sheet.specs.declared.event.Entry.TheVariants.{Bus, Link, Rest};
 ghost use Rattle.chip_sheet.specs.declared.event.LinkEntry.{LinkEntry};
 ghost use Rattle.chip_sheet.specs.declared.event.LinkEntry.TheVariants.{Took, Got, Datagram};
-ghost use Rattle.chip_sheet.specs.declared.phase.Access.TheVariants.{Write};
+ghost use Rattle.chip_sheet.specs.declared.phase.Access.TheVariants.{NoAccess, Read, Write};
 ghost use Rattle.chip_sheet.specs.declared.socket.Cause.TheVariants as because;
 ghost use Rattle.chip_sheet.specs.Past.{Past};
-ghost use Rattle.chip_sheet.specs.Frames.{access_of};
-ghost use Rattle.chip_sheet.specs.Blocks.{registers_of, tx_buffer_of};
+ghost use Rattle.chip_sheet.specs.Frames.{access, access_of};
+ghost use Rattle.chip_sheet.specs.Blocks.{sockets, registers_of, tx_buffer_of, rx_buffer_of, block_of};
 ghost use Rattle.chip_sheet.specs.Sizes.{tx_sizes, rx_sizes, tx_size, rx_size, resizes};
-ghost use Rattle.chip_sheet.specs.Life.{cause, status, begins};
+ghost use Rattle.chip_sheet.specs.Life.{cause, status, lives, begins};
 ghost use Rattle.chip_sheet.specs.Streams.{Starts, sends, is_open, makes, put_by};
 ghost use Rattle.chip_sheet.specs.Buffers.{sending, receiving};
 ghost use Rattle.chip_sheet.specs.Windows.{rx_free};
 ghost use Rattle.chip_sheet.specs.Legal.{Legal};
-ghost use Rattle.chip_sheet.specs.Quiet.{writes_to};
+ghost use Rattle.chip_sheet.specs.Quiet.{writes_to, Untouched};
 ghost use Rattle.chip_sheet.specs.Sending.{after_write, after_commit, after_taken, after_empty, after_begin, after_pointer, after_resize};
 ghost use Rattle.chip_sheet.specs.Receiving as receives;
 ghost use Rattle.chip_steps.specs.Steps.{writes_command_alone, leaves_sent, leaves_got};
@@ -86,4 +97,48 @@ pub fn receiving_steps()
         → receiving starts (entry ∷ past) n ≡ receives.after_begin (receiving starts past n) 0 }
     ensures connects { (starts : Starts) (past : Past) (n : ℕ) (what : LinkEntry) → Legal starts (Link n what ∷ past) → makes what ≡ true
         → receiving starts (Link n what ∷ past) n ≡ receives.after_begin (receiving starts past n) starts.rx }
+{}
+
+/// What the registers of the windows and pointers, the buffers and the moves of the pointers show of the two directions is what the
+/// definitions over a history show.
+pub fn directions_show()
+    ensures tx { (starts : Starts) (past : Past) (n addr : ℕ) → 0x20 ≤ addr → addr < 0x26 → socket_register starts past n addr ≡ sends_of.tx_pointer (sending starts past n) addr }
+    ensures rx { (starts : Starts) (past : Past) (n addr : ℕ) → 0x26 ≤ addr → addr < 0x2C → socket_register starts past n addr ≡ receives.rx_pointer (receiving starts past n) addr }
+    ensures in_flight_at { (starts : Starts) (past : Past) (n addr : ℕ) → Legal starts past → sends_of.in_flight_at (sending starts past n) addr ≡ windows.in_flight_at starts past n addr }
+    ensures rx_byte { (starts : Starts) (past : Past) (n addr : ℕ) → Legal starts past → receives.rx_byte (receiving starts past n) addr ≡ windows.rx_byte starts past n addr }
+    ensures range { (starts : Starts) (past : Past) (n : ℕ) → is_open (status past n) ≡ true
+        → sends_of.range_length (sending starts past n) ≡ streams.range_length starts past n (length (streams.sent starts past n (lives past n))) }
+    ensures release { (starts : Starts) (past : Past) (n : ℕ) → Legal starts past → is_open (status past n) ≡ true
+        → receives.release_length (receiving starts past n) ≡ streams.release_length starts past n (streams.released starts past n (lives past n)) }
+    ensures offered { (starts : Starts) (past : Past) (n : ℕ) → Legal starts past → is_open (status past n) ≡ true
+        → (sends_of.in_flight (sending starts past n) ≡ windows.in_flight starts past n) × (sends_of.offered_length (sending starts past n) ≡ windows.offered_length starts past n) }
+    ensures room { (starts : Starts) (past : Past) (n : ℕ) → is_open (status past n) ≡ true → receives.room_length (receiving starts past n) ≡ windows.room_length starts past n }
+{}
+
+/// Which sockets an entry does not touch: all others than that of the block that is written, where no size changes, and than that of the
+/// link event.
+pub fn others_untouched()
+    ensures registers { (past : Past) (e : BusEvent) (a : BusAnswer) (n m addr v : ℕ) → m ≢ n → access past e ≡ Write (registers_of n) addr v
+        → resizes past tx_sizes (access past e) ≡ false → resizes past rx_sizes (access past e) ≡ false → Untouched past (Bus e a) m }
+    ensures tx { (past : Past) (e : BusEvent) (a : BusAnswer) (n m addr v : ℕ) → m ≢ n → access past e ≡ Write (tx_buffer_of n) addr v → Untouched past (Bus e a) m }
+    ensures rx { (past : Past) (e : BusEvent) (a : BusAnswer) (n m addr v : ℕ) → access past e ≡ Write (rx_buffer_of n) addr v → Untouched past (Bus e a) m }
+    ensures common { (past : Past) (e : BusEvent) (a : BusAnswer) (m addr v : ℕ) → access past e ≡ Write 0 addr v → is_reset (Write 0 addr v) ≡ false → Untouched past (Bus e a) m }
+    ensures reads { (past : Past) (e : BusEvent) (a : BusAnswer) (m bits addr : ℕ) → access past e ≡ Read bits addr → Untouched past (Bus e a) m }
+    ensures idle { (past : Past) (e : BusEvent) (a : BusAnswer) (m : ℕ) → access past e ≡ NoAccess → Untouched past (Bus e a) m }
+    ensures link { (past : Past) (n m : ℕ) (what : LinkEntry) → m ≢ n → Untouched past (Link n what) m }
+    ensures rest { (past : Past) (m : ℕ) → Untouched past Rest m }
+{}
+
+/// The stop of an access, block by block.
+pub fn stop_of_a_block()
+    ensures no_access { (starts : Starts) (past : Past) (e : BusEvent) → access past e ≡ NoAccess → stop starts past e ≡ None }
+    ensures reads { (starts : Starts) (past : Past) (e : BusEvent) (bits addr : ℕ) → access past e ≡ Read bits addr → block_of bits ≢ Reserved → stop starts past e ≡ None }
+    ensures reads_reserved { (starts : Starts) (past : Past) (e : BusEvent) (bits addr : ℕ) → access past e ≡ Read bits addr → block_of bits ≡ Reserved → stop starts past e ≡ Some (ReservedBlock bits) }
+    ensures writes_reserved { (starts : Starts) (past : Past) (e : BusEvent) (bits addr v : ℕ) → access past e ≡ Write bits addr v → block_of bits ≡ Reserved → stop starts past e ≡ Some (ReservedBlock bits) }
+    ensures common { (starts : Starts) (past : Past) (e : BusEvent) (addr v : ℕ) → access past e ≡ Write 0 addr v → stop starts past e ≡ where_it (addr == 0x00 && nat_lt v 128 && v / 8 % 2 == 1) Pppoe }
+    ensures rx { (starts : Starts) (past : Past) (e : BusEvent) (n addr v : ℕ) → access past e ≡ Write (rx_buffer_of n) addr v → stop starts past e ≡ None }
+    ensures tx { (starts : Starts) (past : Past) (e : BusEvent) (n addr v : ℕ) → access past e ≡ Write (tx_buffer_of n) addr v → stop starts past e ≡ overwrite n (tx_size past n) addr (windows.in_flight_at starts past n addr) }
+    ensures command { (starts : Starts) (past : Past) (e : BusEvent) (n v : ℕ) → access past e ≡ Write (registers_of n) sn_cr v → stop starts past e ≡ command_stop n (command_facts starts past n) v }
+    ensures register { (starts : Starts) (past : Past) (e : BusEvent) (n addr v : ℕ) → access past e ≡ Write (registers_of n) addr v → (addr == sn_cr) ≡ false
+        → stop starts past e ≡ where_it ((resizes past rx_sizes (access past e) || resizes past tx_sizes (access past e)) && any_open past sockets) (SizeWhileOpen n) }
 {}
