@@ -6,3 +6,4 @@ mod ReceivingSteps
 pub mod WindowSteps
 pub mod Elsewhere
 pub mod StopSteps
+pub mod BitSteps

@@ -34,3 +34,14 @@ leaves_got because.Got status = not (is_established status)
 leaves_got (because.Datagram count) status = false
 leaves_got because.Receive status = not (is_open status)
 leaves_got why status = not (begins why status)
+
+-- Nothing, or a command that is no SEND and no RECV.
+abbrev pub is_quiet : Cause → Bool
+is_quiet because.Nothing = true
+is_quiet because.OpenTcp = true
+is_quiet because.OpenUdp = true
+is_quiet because.Listen = true
+is_quiet because.Connect = true
+is_quiet because.Disconnect = true
+is_quiet because.Close = true
+is_quiet why = false

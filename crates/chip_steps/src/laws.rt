@@ -1,5 +1,5 @@
 //! The laws of the two directions.
-ghost use Rattle.std.specs.Prelude.{◌≡◌, ◌≢◌, ◌≤◌, ◌<◌, ◌/◌, ◌%◌, ◌==◌, ◌&&◌, ◌||◌, nat_lt, ◌∷◌, ℕ, List, length, Some, None, true, false};
+ghost use Rattle.std.specs.Prelude.{◌≡◌, ◌≢◌, ◌≤◌, ◌<◌, ◌/◌, ◌%◌, ◌==◌, ◌&&◌, ◌||◌, nat_lt, if◌then◌else◌, ◌∷◌, ℕ, List, length, Some, None, true, false};
 ghost use Rattle.board_bus.specs.declared.event.BusEvent.{BusEvent};
 ghost use Rattle.board_bus.specs.declared.event.BusAnswer.{BusAnswer};
 ghost use Rattle.chip_sheet.specs.declared.stop.ChipStop.TheVariants.{ReservedBlock, Pppoe, SizeWhileOpen};
@@ -26,11 +26,12 @@ ghost use Rattle.chip_sheet.specs.Life.{cause, status, lives, begins};
 ghost use Rattle.chip_sheet.specs.Streams.{Starts, sends, is_open, makes, put_by};
 ghost use Rattle.chip_sheet.specs.Buffers.{sending, receiving};
 ghost use Rattle.chip_sheet.specs.Windows.{rx_free};
+ghost use Rattle.chip_sheet.specs.Interrupts.{interrupts_by};
 ghost use Rattle.chip_sheet.specs.Legal.{Legal};
 ghost use Rattle.chip_sheet.specs.Quiet.{writes_to, Untouched};
 ghost use Rattle.chip_sheet.specs.Sending.{after_write, after_commit, after_taken, after_empty, after_begin, after_pointer, after_resize};
 ghost use Rattle.chip_sheet.specs.Receiving as receives;
-ghost use Rattle.chip_steps.specs.Steps.{writes_command_alone, leaves_sent, leaves_got};
+ghost use Rattle.chip_steps.specs.Steps.{writes_command_alone, leaves_sent, leaves_got, is_quiet};
 
 /// A command or a link event that leaves what was sent changes nothing of what a socket sends where the socket is open after it as
 /// before, and empties the window where it is not open after it.
@@ -141,4 +142,13 @@ pub fn stop_of_a_block()
     ensures command { (starts : Starts) (past : Past) (e : BusEvent) (n v : ℕ) → access past e ≡ Write (registers_of n) sn_cr v → stop starts past e ≡ command_stop n (command_facts starts past n) v }
     ensures register { (starts : Starts) (past : Past) (e : BusEvent) (n addr v : ℕ) → access past e ≡ Write (registers_of n) addr v → (addr == sn_cr) ≡ false
         → stop starts past e ≡ where_it ((resizes past rx_sizes (access past e) || resizes past tx_sizes (access past e)) && any_open past sockets) (SizeWhileOpen n) }
+{}
+
+/// The interrupts that a command raises: SENDOK at a SEND of no bytes, RECV at a RECV after which bytes remain, and none at any other.
+pub fn commands_raise()
+    ensures send { (starts : Starts) (past : Past) (entry : Entry) (n : ℕ) → cause past n entry ≡ because.Send
+        → interrupts_by starts past n entry ≡ (if sends (status past n) && streams.range_length starts past n (length (streams.sent starts past n (lives past n))) == 0 then 16 else 0) }
+    ensures receive { (starts : Starts) (past : Past) (entry : Entry) (n : ℕ) → cause past n entry ≡ because.Receive
+        → interrupts_by starts past n entry ≡ (if is_open (status past n) && nat_lt 0 (windows.unread starts (entry ∷ past) n) then 4 else 0) }
+    ensures others { (starts : Starts) (past : Past) (entry : Entry) (n : ℕ) → is_quiet (cause past n entry) ≡ true → interrupts_by starts past n entry ≡ 0 }
 {}
