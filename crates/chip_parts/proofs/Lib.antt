@@ -1,0 +1,4 @@
+mod Reading
+mod Eight
+mod Stepping
+mod Assembly

@@ -1,14 +1,20 @@
 //! The parts of the chip that its accesses and its link events reach.
-ghost use Rattle.std.specs.Prelude.{◌≡◌, ◌<◌, ◌≤◌, ◌+◌, ◌*◌, ℕ, IfOk, [], ◌∷◌, None};
+ghost use Rattle.std.specs.Prelude.{◌≡◌, ◌≢◌, ◌<◌, ℕ, IfOk, [], ◌∷◌, false};
+ghost use Rattle.board_bus.specs.declared.event.BusEvent.{BusEvent};
+ghost use Rattle.board_bus.specs.declared.event.BusAnswer.{BusAnswer};
+ghost use Rattle.chip_sheet.specs.declared.event.Entry.TheVariants.{Bus};
+ghost use Rattle.chip_sheet.specs.declared.phase.Access.TheVariants.{Write};
 ghost use Rattle.chip_sheet.specs.Past.{Past};
+ghost use Rattle.chip_sheet.specs.Frames.{access};
+ghost use Rattle.chip_sheet.specs.Names.{sn_cr};
+ghost use Rattle.chip_sheet.specs.Sizes.{tx_sizes, rx_sizes, resizes};
 ghost use Rattle.chip_sheet.specs.Streams.{Starts};
 ghost use Rattle.chip_sheet.specs.Legal.{Legal};
 ghost use Rattle.chip_sheet.specs.Answers as sheet;
-ghost use Rattle.chip_sheet.specs.Blocks.{block_of};
-ghost use Rattle.chip_sheet.specs.Interrupts.{interrupt_low};
+ghost use Rattle.chip_sheet.specs.Blocks.{block_of, registers_of};
+ghost use Rattle.chip_sheet.specs.Interrupts.{interrupt_low, interrupts_by};
 ghost use Rattle.chip_sheet.specs.SocketBlock.{socket_register};
 
-use crate::socket::Socket;
 use common_regs::registers::CommonRegs;
 use irq_lines::lines;
 use ring_mem::rings::Rings;
@@ -19,7 +25,9 @@ use std::alloc::{AllocError, Global};
 /// Sn_SR.
 const STATUS: u16 = 0x03;
 
-/// IMR and SIMR.
+/// IR, IMR and SIMR.
+const IR: u16 = 0x15;
+
 const IMR: u16 = 0x16;
 
 const SIMR: u16 = 0x18;
@@ -28,7 +36,10 @@ const SIMR: u16 = 0x18;
 #[derive(Drop)]
 pub struct Parts {
     common: CommonRegs,
-    sockets: [Socket; 8],
+    /// The registers of each socket, but for those that its life and its buffers answer.
+    registers: [SockRegs; 8],
+    /// The life of each socket.
+    lives: [Life; 8],
     rings: Rings,
     /// What SIR reads.
     sir: u8,
@@ -38,7 +49,7 @@ pub struct Parts {
 }
 
 impl Parts {
-    ghost use Rattle.chip_parts.specs.Holding.{Holds};
+    ghost use Rattle.chip_parts.specs.Holding.{Holds, Shows, OthersUntouched};
 
     /// The parts after power-on.
     ///
@@ -49,13 +60,10 @@ impl Parts {
         ensures { IfOk result (λ parts. Holds (record { tx = tx_start; rx = rx_start }) parts []) }
     {
         let rings = Rings::new(alloc)?;
-        let socket = Socket {
-            registers: SockRegs::new(),
-            life: Life::new(),
-        };
         Ok(Parts {
             common: CommonRegs::new(),
-            sockets: [socket; 8],
+            registers: [SockRegs::new(); 8],
+            lives: [Life::new(); 8],
             rings,
             sir: 0,
             tx_start,
@@ -68,11 +76,10 @@ impl Parts {
         requires { sn < 8 }
         ensures { (starts : Starts) (past : Past) → Holds starts self.now past → result ≡ socket_register starts past sn addr }
     {
-        let socket = &self.sockets[sn as usize];
-        if let Some(byte) = socket.registers.read(addr) {
+        if let Some(byte) = self.registers[sn as usize].read(addr) {
             byte
         } else if addr == STATUS {
-            socket.life.status()
+            self.lives[sn as usize].status()
         } else {
             self.rings.pointer(sn, addr)
         }
@@ -84,12 +91,17 @@ impl Parts {
         ensures { (starts : Starts) (past : Past) → Legal starts past → Holds starts self.now past → result ≡ sheet.byte_at starts past (block_of bits) addr }
     {
         let sn = bits / 4;
-        match bits % 4 {
-            1 => self.read_register(sn, addr),
-            2 => self.rings.tx_read(sn, addr),
-            3 => self.rings.rx_read(sn, addr),
-            _ if bits == 0 => self.common.read(addr, self.sir),
-            _ => 0,
+        let kind = bits % 4;
+        if bits == 0 {
+            self.common.read(addr, self.sir)
+        } else if kind == 1 {
+            self.read_register(sn, addr)
+        } else if kind == 2 {
+            self.rings.tx_read(sn, addr)
+        } else if kind == 3 {
+            self.rings.rx_read(sn, addr)
+        } else {
+            0
         }
     }
 
@@ -97,8 +109,34 @@ impl Parts {
     pub fn int_low(&self) -> bool
         ensures { (starts : Starts) (past : Past) → Holds starts self.now past → result ≡ interrupt_low starts past }
     {
+        let ir = self.common.read(IR, self.sir);
         let imr = self.common.read(IMR, self.sir);
         let simr = self.common.read(SIMR, self.sir);
-        lines::int_low(0, imr, self.sir, simr)
+        lines::int_low(ir, imr, self.sir, simr)
+    }
+
+    /// Writes a byte to the registers of a socket, raises these bits of Sn_IR, and renews the socket's bit of SIR.
+    fn step_registers(&mut self, sn: u8, addr: u16, v: u8, bits: u8)
+        requires { sn < 8 }
+        ensures shows { (starts : Starts) (past : Past) (e : BusEvent) (a : BusAnswer) → Shows starts self.old past → access past e ≡ Write (registers_of sn) addr v
+            → bits ≡ interrupts_by starts past sn (Bus e a) → OthersUntouched past (Bus e a) sn → Shows starts self.new (Bus e a ∷ past) }
+        ensures same { self.new ≡ record self.old { registers = self.new.registers; sir = self.new.sir } }
+    {
+        let registers = &mut self.registers[sn as usize];
+        registers.write(addr, v);
+        registers.raise(bits);
+        let ir = registers.interrupts();
+        let imr = registers.mask();
+        self.sir = lines::sir_with(self.sir, sn, ir, imr);
+    }
+
+    /// Writes a byte of the register block of a socket that is neither a command nor another size of a buffer.
+    fn write_plain(&mut self, sn: u8, addr: u16, v: u8)
+        requires { sn < 8 }
+        ensures { (starts : Starts) (past : Past) (e : BusEvent) (a : BusAnswer) → Holds starts self.old past → access past e ≡ Write (registers_of sn) addr v → addr ≢ sn_cr
+            → resizes past tx_sizes (access past e) ≡ false → resizes past rx_sizes (access past e) ≡ false → Holds starts self.new (Bus e a ∷ past) }
+    {
+        self.rings.set_pointer(sn, addr, v);
+        self.step_registers(sn, addr, v, 0);
     }
 }

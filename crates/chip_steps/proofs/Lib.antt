@@ -1,9 +1,10 @@
-mod Going
-mod Writing
-mod Lists
-mod SendingSteps
-mod ReceivingSteps
+pub mod Going
+pub mod Writing
+pub mod Lists
+pub mod SendingSteps
+pub mod ReceivingSteps
 pub mod WindowSteps
 pub mod Elsewhere
 pub mod StopSteps
 pub mod BitSteps
+pub mod ReadSteps

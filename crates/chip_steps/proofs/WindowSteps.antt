@@ -38,7 +38,7 @@ six_places P low a b c d e f addr from below =
     ]
 
 -- The end of what was sent or received, where a life was opened.
-end_is : (b : Bool) (base : ℕ) (all : List ℕ) → cond b (shown (base + length all)) 0 ≡ shown (cond b base 0 + length (cond b all []))
+pub end_is : (b : Bool) (base : ℕ) (all : List ℕ) → cond b (shown (base + length all)) 0 ≡ shown (cond b base 0 + length (cond b all []))
 end_is true base all = refl
 end_is false base all = refl
 

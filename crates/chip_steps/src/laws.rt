@@ -1,5 +1,5 @@
 //! The laws of the two directions.
-ghost use Rattle.std.specs.Prelude.{◌≡◌, ◌≢◌, ◌≤◌, ◌<◌, ◌/◌, ◌%◌, ◌==◌, ◌&&◌, ◌||◌, nat_lt, if◌then◌else◌, ◌∷◌, ℕ, List, length, Some, None, true, false};
+ghost use Rattle.std.specs.Prelude.{◌≡◌, ◌≢◌, ◌≤◌, ◌<◌, ◌/◌, ◌%◌, ◌==◌, ◌&&◌, ◌||◌, nat_lt, if◌then◌else◌, ◌∷◌, ℕ, List, length, map, Some, None, true, false};
 ghost use Rattle.board_bus.specs.declared.event.BusEvent.{BusEvent};
 ghost use Rattle.board_bus.specs.declared.event.BusAnswer.{BusAnswer};
 ghost use Rattle.chip_sheet.specs.declared.stop.ChipStop.TheVariants.{ReservedBlock, Pppoe, SizeWhileOpen};
@@ -10,7 +10,7 @@ ghost use Rattle.chip_sheet.specs.Windows as windows;
 ghost use Rattle.chip_sheet.specs.Streams as streams;
 ghost use Rattle.chip_sheet.specs.Sending as sends_of;
 ghost use Rattle.chip_sheet.specs.Names.{sn_cr};
-ghost use Rattle.chip_sheet.specs.Registers.{is_reset};
+ghost use Rattle.chip_sheet.specs.Registers.{is_reset, common_register};
 ghost use Rattle.chip_sheet.specs.declared.event.Addr.{Addr};
 ghost use Rattle.chip_sheet.specs.declared.event.Entry.{Entry};
 ghost use Rattle.chip_sheet.specs.declared.event.Entry.TheVariants.{Bus, Link, Rest};
@@ -21,12 +21,12 @@ ghost use Rattle.chip_sheet.specs.declared.socket.Cause.TheVariants as because;
 ghost use Rattle.chip_sheet.specs.Past.{Past};
 ghost use Rattle.chip_sheet.specs.Frames.{access, access_of};
 ghost use Rattle.chip_sheet.specs.Blocks.{sockets, registers_of, tx_buffer_of, rx_buffer_of, block_of};
-ghost use Rattle.chip_sheet.specs.Sizes.{tx_sizes, rx_sizes, tx_size, rx_size, resizes};
+ghost use Rattle.chip_sheet.specs.Sizes.{tx_sizes, rx_sizes, tx_size, rx_size, resizes, kilobytes};
 ghost use Rattle.chip_sheet.specs.Life.{cause, status, lives, begins};
 ghost use Rattle.chip_sheet.specs.Streams.{Starts, sends, is_open, makes, put_by};
 ghost use Rattle.chip_sheet.specs.Buffers.{sending, receiving};
 ghost use Rattle.chip_sheet.specs.Windows.{rx_free};
-ghost use Rattle.chip_sheet.specs.Interrupts.{interrupts_by};
+ghost use Rattle.chip_sheet.specs.Interrupts.{interrupts_by, asks, sir_register};
 ghost use Rattle.chip_sheet.specs.Legal.{Legal};
 ghost use Rattle.chip_sheet.specs.Quiet.{writes_to, Untouched};
 ghost use Rattle.chip_sheet.specs.Sending.{after_write, after_commit, after_taken, after_empty, after_begin, after_pointer, after_resize};
@@ -151,4 +151,15 @@ pub fn commands_raise()
     ensures receive { (starts : Starts) (past : Past) (entry : Entry) (n : ℕ) → cause past n entry ≡ because.Receive
         → interrupts_by starts past n entry ≡ (if is_open (status past n) && nat_lt 0 (windows.unread starts (entry ∷ past) n) then 4 else 0) }
     ensures others { (starts : Starts) (past : Past) (entry : Entry) (n : ℕ) → is_quiet (cause past n entry) ≡ true → interrupts_by starts past n entry ≡ 0 }
+{}
+
+/// An entry that does not touch a socket leaves what each of its registers reads and whether it asks for an interrupt; one that touches
+/// none leaves SIR. What writes nothing to the common registers leaves them, and what changes no size leaves the eight sizes.
+pub fn untouched_reads()
+    ensures registers { (starts : Starts) (past : Past) (entry : Entry) (n at : ℕ) → Untouched past entry n → socket_register starts (entry ∷ past) n at ≡ socket_register starts past n at }
+    ensures asks { (starts : Starts) (past : Past) (entry : Entry) (n : ℕ) → Untouched past entry n → asks starts (entry ∷ past) n ≡ asks starts past n }
+    ensures sir { (starts : Starts) (past : Past) (entry : Entry) → ((n : ℕ) → Untouched past entry n) → sir_register starts (entry ∷ past) ≡ sir_register starts past }
+    ensures common { (past : Past) (entry : Entry) (at : ℕ) → is_reset (access_of past entry) ≡ false → writes_to (access_of past entry) 0 ≡ false → common_register (entry ∷ past) at ≡ common_register past at }
+    ensures sizes { (past : Past) (entry : Entry) (sizes : ℕ) → is_reset (access_of past entry) ≡ false → resizes past sizes (access_of past entry) ≡ false
+        → map (kilobytes (entry ∷ past) sizes) sockets ≡ map (kilobytes past sizes) sockets }
 {}
