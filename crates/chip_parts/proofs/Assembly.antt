@@ -1,5 +1,5 @@
 -- The parts after an entry that touches one socket at most, changes no size and no common register.
-use Rattle.std.proofs.Common.{◌≡◌, ◌≢◌, ◌<◌, ℕ, Bool, true, false, List, [], ◌∷◌, get_or, inl, inr, refl, sym, ap, ◌∙◌, subst, ◌⊎◌}
+use Rattle.std.proofs.Common.{◌≡◌, ◌≢◌, ℕ, false, ◌∷◌, get_or, inl, inr, sym, ◌∙◌, subst}
 use Rattle.std.proofs.lemmas.Bool.{cases_eq}
 use Rattle.chip_sheet.specs.declared.event.Entry.{Entry}
 use Rattle.chip_sheet.specs.Past.{Past}
@@ -10,7 +10,7 @@ use Rattle.chip_sheet.specs.Streams.{Starts}
 use Rattle.chip_sheet.specs.Sending.{Sending}
 use Rattle.chip_sheet.specs.Receiving.{Receiving}
 use Rattle.chip_sheet.specs.Buffers.{sending, receiving}
-use Rattle.chip_sheet.specs.Quiet.{writes_to, Untouched}
+use Rattle.chip_sheet.specs.Quiet.{writes_to}
 use Rattle.chip_sheet.proofs.Quiet.{leaves_all}
 use Rattle.chip_steps.proofs.ReadSteps.{common_same, sizes_same}
 use Rattle.common_regs.specs.declared.registers.CommonRegs.{CommonRegs}

@@ -2,3 +2,5 @@ mod Reading
 mod Eight
 mod Stepping
 mod Assembly
+mod Buffers
+mod Outcomes

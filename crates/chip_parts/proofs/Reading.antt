@@ -1,14 +1,13 @@
 -- What an address of a block reads.
-use Rattle.std.proofs.Common.{◌≡◌, ◌<◌, ◌≤◌, ℕ, ◌/◌, ◌%◌, Bool, true, false, not, ◌&&◌, ◌||◌, cond, eqb, leb, Option, None, Some, inl, inr, refl, sym, ap, ◌∙◌, subst, arith, ◌⊎◌, get_or}
-use Rattle.std.proofs.lemmas.Bool.{cond-true, cond-false, not-false, or_cases, and_parts, leb-true, eqb-true, eq-eqb, ne_eqb, cases_lt}
-use Rattle.chip_sheet.specs.declared.block.Block.{Block}
+use Rattle.std.proofs.Common.{◌≡◌, ◌<◌, ◌≤◌, ℕ, ◌/◌, ◌%◌, Bool, true, false, ◌&&◌, ◌||◌, cond, eqb, leb, None, Some, inl, inr, refl, sym, ap, ◌∙◌, arith}
+use Rattle.std.proofs.lemmas.Bool.{cond-true, cond-false, not-false, or_cases, and_parts, leb-true, eqb-true, eq-eqb, ne_eqb}
 use Rattle.chip_sheet.specs.declared.block.Block.TheVariants.{Common, Registers, TxBuffer, RxBuffer, Reserved}
 use Rattle.chip_sheet.specs.Past.{Past}
 use Rattle.chip_sheet.specs.Blocks.{block_of}
 use Rattle.chip_sheet.specs.Life.{status, status_code}
 use Rattle.chip_sheet.specs.Streams.{Starts}
 use Rattle.chip_sheet.specs.SocketBlock.{socket_place, socket_register}
-use Rattle.sock_regs.specs.Places.{is_kept, is_here, read_at}
+use Rattle.sock_regs.specs.Places.{is_kept, read_at}
 use Rattle.sock_regs.proofs.PlaceTable.{here_is}
 
 some_of : (b : Bool) (x byte : ℕ) → Some byte ≡ cond b (Some x) None → byte ≡ x

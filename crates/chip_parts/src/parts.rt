@@ -1,5 +1,5 @@
 //! The parts of the chip that its accesses and its link events reach.
-ghost use Rattle.std.specs.Prelude.{◌≡◌, ◌≢◌, ◌<◌, ℕ, IfOk, [], ◌∷◌, false};
+ghost use Rattle.std.specs.Prelude.{◌≡◌, ◌≢◌, ◌<◌, ℕ, IfOk, IfErr, OnOk, Some, None, [], ◌∷◌, false};
 ghost use Rattle.board_bus.specs.declared.event.BusEvent.{BusEvent};
 ghost use Rattle.board_bus.specs.declared.event.BusAnswer.{BusAnswer};
 ghost use Rattle.chip_sheet.specs.declared.event.Entry.TheVariants.{Bus};
@@ -10,11 +10,13 @@ ghost use Rattle.chip_sheet.specs.Names.{sn_cr};
 ghost use Rattle.chip_sheet.specs.Sizes.{tx_sizes, rx_sizes, resizes};
 ghost use Rattle.chip_sheet.specs.Streams.{Starts};
 ghost use Rattle.chip_sheet.specs.Legal.{Legal};
+ghost use Rattle.chip_sheet.specs.Stops.{stop};
 ghost use Rattle.chip_sheet.specs.Answers as sheet;
-ghost use Rattle.chip_sheet.specs.Blocks.{block_of, registers_of};
+ghost use Rattle.chip_sheet.specs.Blocks.{block_of, registers_of, tx_buffer_of};
 ghost use Rattle.chip_sheet.specs.Interrupts.{interrupt_low, interrupts_by};
 ghost use Rattle.chip_sheet.specs.SocketBlock.{socket_register};
 
+use chip_sheet::stop::ChipStop;
 use common_regs::registers::CommonRegs;
 use irq_lines::lines;
 use ring_mem::rings::Rings;
@@ -138,5 +140,20 @@ impl Parts {
     {
         self.rings.set_pointer(sn, addr, v);
         self.step_registers(sn, addr, v, 0);
+    }
+
+    /// Writes a byte of the TX buffer of a socket.
+    ///
+    /// # Errors
+    ///
+    /// `OverwriteInFlight` exactly where the place holds a byte in flight; nothing has then changed.
+    fn write_tx(&mut self, sn: u8, addr: u16, v: u8) -> Result<(), ChipStop>
+        requires { sn < 8 }
+        ensures ok { OnOk result ((starts : Starts) (past : Past) (e : BusEvent) (a : BusAnswer) → Legal starts past → Holds starts self.old past → access past e ≡ Write (tx_buffer_of sn) addr v
+            → (stop starts past e ≡ None) × Holds starts self.new (Bus e a ∷ past)) }
+        ensures err { IfErr result (λ s. (self.new ≡ self.old) × ((starts : Starts) (past : Past) (e : BusEvent) → Legal starts past → Holds starts self.old past
+            → access past e ≡ Write (tx_buffer_of sn) addr v → stop starts past e ≡ Some s)) }
+    {
+        self.rings.tx_write(sn, addr, v)
     }
 }

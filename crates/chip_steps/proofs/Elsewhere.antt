@@ -1,9 +1,8 @@
 -- Which sockets an entry does not touch.
-use Rattle.std.proofs.Common.{◌≡◌, ℕ, ◌+◌, ◌*◌, Bool, true, false, ◌&&◌, cond, eqb, leb, ◌∷◌, refl, sym, ap, ◌∙◌, arith}
+use Rattle.std.proofs.Common.{◌≡◌, ℕ, Bool, false, ◌&&◌, eqb, leb, refl, sym, ap, ◌∙◌, arith}
 use Rattle.std.proofs.lemmas.Bool.{cond-false, and_left, ne_eqb}
 use Rattle.board_bus.specs.declared.event.BusEvent.{BusEvent}
 use Rattle.board_bus.specs.declared.event.BusAnswer.{BusAnswer}
-use Rattle.chip_sheet.specs.declared.event.Entry.{Entry}
 use Rattle.chip_sheet.specs.declared.event.Entry.TheVariants.{Bus, Link, Rest}
 use Rattle.chip_sheet.specs.declared.event.LinkEntry.{LinkEntry}
 use Rattle.chip_sheet.specs.declared.phase.Access.{Access}
@@ -12,7 +11,7 @@ use Rattle.chip_sheet.specs.declared.block.Block.{Block}
 use Rattle.chip_sheet.specs.declared.socket.Cause.TheVariants as because
 use Rattle.chip_sheet.specs.Past.{Past}
 use Rattle.chip_sheet.specs.Frames.{access}
-use Rattle.chip_sheet.specs.Blocks.{registers_of, tx_buffer_of, rx_buffer_of, block_of}
+use Rattle.chip_sheet.specs.Blocks.{registers_of, tx_buffer_of, rx_buffer_of}
 use Rattle.chip_sheet.specs.Registers.{is_reset}
 use Rattle.chip_sheet.specs.Life.{cause_by, command, protocol, happening}
 use Rattle.chip_sheet.specs.Sizes.{tx_sizes, rx_sizes, resizes, resizes_block}

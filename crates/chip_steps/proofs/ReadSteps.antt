@@ -1,5 +1,5 @@
 -- An entry that does not touch a socket leaves what its registers read, and what SIR reads.
-use Rattle.std.proofs.Common.{◌≡◌, ℕ, ◌+◌, ◌-◌, ◌*◌, ◌%◌, Bool, true, false, ◌&&◌, ◌||◌, cond, eqb, List, [], ◌∷◌, map, Option, None, refl, sym, ap, ◌∙◌}
+use Rattle.std.proofs.Common.{◌≡◌, ℕ, ◌+◌, ◌-◌, ◌*◌, ◌%◌, Bool, false, ◌&&◌, ◌||◌, cond, List, [], ◌∷◌, map, Option, None, refl, sym, ap, ◌∙◌}
 use Rattle.std.specs.Option.{unwrap_or, option_or}
 use Rattle.chip_sheet.specs.declared.event.Entry.{Entry}
 use Rattle.chip_sheet.specs.declared.socket.Interrupt.{Interrupt}
@@ -81,7 +81,7 @@ asks_same starts past entry n h =
     let on = leaves_all starts past entry n h in
     λ i. any_of (unwrap_or (on.registers 0x2C i) 0xFF) (λ bit. on.bits bit i)
 
-sir_of_same : (starts : Starts) (past : Past) (entry : Entry) (ns : List ℕ) (value : ℕ) → ((n : ℕ) → asks starts (entry ∷ past) n ≡ asks starts past n)
+pub sir_of_same : (starts : Starts) (past : Past) (entry : Entry) (ns : List ℕ) (value : ℕ) → ((n : ℕ) → asks starts (entry ∷ past) n ≡ asks starts past n)
     → sir_from starts (entry ∷ past) ns value ≡ sir_from starts past ns value
 sir_of_same starts past entry [] value h = refl
 sir_of_same starts past entry (n ∷ more) value h = λ i. cond (h n i) value 0 + sir_of_same starts past entry more (2 * value) h i

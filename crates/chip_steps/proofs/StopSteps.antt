@@ -1,5 +1,5 @@
 -- The stop of an access, block by block.
-use Rattle.std.proofs.Common.{◌≡◌, ℕ, ◌+◌, ◌*◌, ◌/◌, ◌%◌, Bool, true, false, ◌&&◌, ◌||◌, eqb, ltb, [], ◌∷◌, Option, None, Some, refl, sym, ap, ◌∙◌}
+use Rattle.std.proofs.Common.{◌≡◌, ℕ, ◌/◌, ◌%◌, Bool, true, false, ◌&&◌, ◌||◌, eqb, ltb, [], ◌∷◌, Option, None, Some, refl, sym, ap, ◌∙◌}
 use Rattle.board_bus.specs.declared.event.BusEvent.{BusEvent}
 use Rattle.chip_sheet.specs.declared.stop.ChipStop.{ChipStop}
 use Rattle.chip_sheet.specs.declared.stop.ChipStop.TheVariants.{ReservedBlock, Pppoe, SizeWhileOpen}
@@ -13,7 +13,7 @@ use Rattle.chip_sheet.specs.Blocks.{sockets, registers_of, tx_buffer_of, rx_buff
 use Rattle.chip_sheet.specs.Sizes.{tx_sizes, rx_sizes, tx_size, resizes, resizes_block}
 use Rattle.chip_sheet.specs.Streams.{Starts}
 use Rattle.chip_sheet.specs.Windows.{in_flight_at}
-use Rattle.chip_sheet.specs.Stops.{BlockAccess, Reads, Writes, block_access, where_it, overwrite, any_open, first, command_stop, command_facts, stop_by, stop}
+use Rattle.chip_sheet.specs.Stops.{Reads, Writes, block_access, where_it, overwrite, any_open, first, command_stop, command_facts, stop_by, stop}
 use Rattle.chip_sheet.proofs.StopRows.{registers_block}
 use Rattle.chip_sheet.proofs.ResetRestores.{tx_block, rx_block}
 

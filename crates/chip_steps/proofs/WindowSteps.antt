@@ -1,9 +1,9 @@
 -- What the two directions show is what the definitions over a past show.
-use Rattle.std.proofs.Common.{◌≡◌, ◌≤◌, ◌<◌, ℕ, ◌+◌, ◌-◌, ◌%◌, zero, suc, Bool, true, false, cond, min, List, [], ◌∷◌, length, drop, Option, None, Some, inl, inr, refl, sym, ap, ◌∙◌, subst, arith, get_or}
+use Rattle.std.proofs.Common.{◌≡◌, ◌≤◌, ◌<◌, ℕ, ◌+◌, ◌-◌, ◌%◌, zero, suc, Bool, true, false, cond, min, List, [], length, drop, Option, None, Some, inl, inr, refl, sym, ap, ◌∙◌, subst, arith, get_or}
 use Rattle.std.proofs.lemmas.Bool.{cond-true, cond-false, cases_Bool, cases_eq}
 use Rattle.chip_sheet.specs.Past.{Past}
 use Rattle.chip_sheet.specs.Life.{status, lives}
-use Rattle.chip_sheet.specs.Positions.{shown, byte_of, found_among, ahead, pair}
+use Rattle.chip_sheet.specs.Positions.{shown, byte_of, found_among, ahead}
 use Rattle.chip_sheet.specs.Sizes.{tx_size, rx_size}
 use Rattle.chip_sheet.specs.Streams.{Starts, sent, taken, got, released, tx_base, rx_base, is_open}
 use Rattle.chip_sheet.specs.Streams as streams
@@ -74,9 +74,10 @@ taken_is starts past n legal live =
     let f = flight starts past n in
     let flying : f ≡ length all - t = cond-true (is_open (status past n)) (length all - t) 0 live in
     let is = back (length all) f t (taken_within starts past n l legal) flying in
-    let opened = opened_open past n (open_not_closed (status past n) live) in
-    (subst (λ (b : Bool). cond b base 0 + (length (cond b all []) - f) ≡ base + t) (sym opened) (ap (λ (k : ℕ). base + k) is),
-    subst (λ (b : Bool). length (cond b all []) - f ≡ t) (sym opened) is)
+    let opened = opened_open past n (open_not_closed (status past n) live) in (
+      subst (λ (b : Bool). cond b base 0 + (length (cond b all []) - f) ≡ base + t) (sym opened) (ap (λ (k : ℕ). base + k) is),
+      subst (λ (b : Bool). length (cond b all []) - f ≡ t) (sym opened) is,
+    )
 
 pub released_is : (starts : Starts) (past : Past) (n : ℕ) → Legal starts past → is_open (status past n) ≡ true
     → (receives.first_unread (receiving starts past n) ≡ rx_base starts past n (lives past n) + released starts past n (lives past n))
@@ -89,9 +90,10 @@ released_is starts past n legal live =
     let u = unread starts past n in
     let there : u ≡ length all - r = cond-true (is_open (status past n)) (length all - r) 0 live in
     let is = back (length all) u r (released_within starts past n l legal) there in
-    let opened = opened_open past n (open_not_closed (status past n) live) in
-    (subst (λ (b : Bool). cond b base 0 + (length (cond b all []) - u) ≡ base + r) (sym opened) (ap (λ (k : ℕ). base + k) is),
-    subst (λ (b : Bool). length (cond b all []) - u ≡ r) (sym opened) is)
+    let opened = opened_open past n (open_not_closed (status past n) live) in (
+      subst (λ (b : Bool). cond b base 0 + (length (cond b all []) - u) ≡ base + r) (sym opened) (ap (λ (k : ℕ). base + k) is),
+      subst (λ (b : Bool). length (cond b all []) - u ≡ r) (sym opened) is,
+    )
 
 none_flying : (starts : Starts) (past : Past) (n : ℕ) → is_open (status past n) ≡ false → flight starts past n ≡ 0
 none_flying starts past n shut = cond-false (is_open (status past n)) _ 0 shut
@@ -161,9 +163,10 @@ offered_is starts past n legal live =
     let is = taken_is starts past n legal live in
     let f = flight starts past n in
     let size = tx_size past n in
-    let opened = opened_open past n (open_not_closed (status past n) live) in
-    ((λ i. drop (is.1 i) (cond-true (is_opened past n) all [] opened i)) ∙ sym (cond-true (is_open (status past n)) (drop (taken past n l) all) [] live),
-    ap (λ (first : ℕ). min f (size - first % size)) is.0)
+    let opened = opened_open past n (open_not_closed (status past n) live) in (
+      (λ i. drop (is.1 i) (cond-true (is_opened past n) all [] opened i)) ∙ sym (cond-true (is_open (status past n)) (drop (taken past n l) all) [] live),
+      ap (λ (first : ℕ). min f (size - first % size)) is.0,
+    )
 
 pub room_is : (starts : Starts) (past : Past) (n : ℕ) → is_open (status past n) ≡ true → receives.room_length (receiving starts past n) ≡ windows.room_length starts past n
 room_is starts past n live =

@@ -1,5 +1,5 @@
 mod Tables
 pub mod PlaceTable
 mod Steps
-mod BitBytes
+pub mod BitBytes
 pub mod History

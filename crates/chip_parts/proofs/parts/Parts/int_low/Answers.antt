@@ -1,4 +1,4 @@
-use Rattle.std.proofs.Common.{◌≡◌, ℕ, ap, ◌∙◌, sym}
+use Rattle.std.proofs.Common.{◌∙◌}
 use Rattle.chip_sheet.specs.Registers.{common_register}
 use Rattle.irq_lines.specs.Lines.{is_low}
 use Rattle.irq_lines.proofs.Following.{line}

@@ -1,4 +1,4 @@
-use Rattle.std.proofs.Common.{◌≡◌, ◌<◌, ℕ, ◌∷◌, [], List, refl, get_or, ◌∙◌}
+use Rattle.std.proofs.Common.{ℕ, ◌∷◌, [], List, refl, get_or, ◌∙◌}
 use Rattle.chip_sheet.specs.Streams.{Starts}
 use Rattle.chip_sheet.specs.SocketBlock.{socket_register}
 use Rattle.sock_regs.specs.declared.registers.SockRegs.{SockRegs}

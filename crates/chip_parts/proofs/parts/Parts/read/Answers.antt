@@ -1,4 +1,4 @@
-use Rattle.std.proofs.Common.{◌≡◌, ◌<◌, ℕ, ◌/◌, sym, ap, ◌∙◌, arith}
+use Rattle.std.proofs.Common.{◌<◌, ℕ, ◌/◌, sym, ap, ◌∙◌, arith}
 use Rattle.chip_sheet.specs.declared.block.Block.{Block}
 use Rattle.chip_sheet.specs.Answers.{byte_at}
 use Rattle.chip_sheet.specs.Blocks.{block_of}

@@ -1,4 +1,4 @@
-use Rattle.std.proofs.Common.{◌≡◌, ◌<◌, ℕ, ◌∷◌, arith, length}
+use Rattle.std.proofs.Common.{◌<◌, ◌∷◌, arith, length}
 use Rattle.chip_sheet.specs.declared.event.Entry.TheVariants.{Bus}
 use Rattle.chip_sheet.specs.SocketBlock.{socket_register}
 use Rattle.chip_parts.proofs.Stepping.{written_reads, all_read, sir_renewed, ir_named, imr_named}
