@@ -4,3 +4,5 @@ mod Stepping
 mod Assembly
 mod Buffers
 mod Outcomes
+mod Settling
+mod Commands

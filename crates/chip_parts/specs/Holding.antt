@@ -1,5 +1,5 @@
 -- The parts stand for what happened.
-use Rattle.std.specs.Prelude.{◌≡◌, ◌≢◌, ◌<◌, ℕ, map, slice_index_or}
+use Rattle.std.specs.Prelude.{◌≡◌, ◌≢◌, ◌<◌, ◌&&◌, ℕ, map, slice_index_or}
 use Rattle.chip_sheet.specs.declared.event.Entry.{Entry}
 use Rattle.chip_sheet.specs.Past.{Past}
 use Rattle.chip_sheet.specs.Quiet.{Untouched}
@@ -13,6 +13,9 @@ use Rattle.chip_sheet.specs.SocketBlock.{socket_register}
 use Rattle.common_regs.specs.Holding as common
 use Rattle.sock_regs.specs.Holding.{Reads}
 use Rattle.sock_cmd.specs.Lives.{IsAfter}
+use Rattle.sock_cmd.specs.declared.command.CmdAt.{CmdAt}
+use Rattle.chip_sheet.specs.Life.{mode}
+use Rattle.chip_sheet.specs.Peers.{destination, source_port}
 use Rattle.ring_mem.specs.Buffers.{TxHolds, RxHolds, tx_kilobytes, rx_kilobytes}
 use Rattle.sock_regs.specs.declared.registers.SockRegs.{SockRegs}
 use Rattle.sock_cmd.specs.declared.life.Life.{Life}
@@ -38,3 +41,11 @@ pub record Holds (starts : Starts) (parts : Parts) (past : Past) : Type 0 where
   pub rx : (n : ℕ) → n < 8 → RxHolds parts.rings n (receiving starts past n)
   pub tx_sizes : tx_kilobytes parts.rings ≡ map (sizes.kilobytes past sizes.tx_sizes) blocks.sockets
   pub rx_sizes : rx_kilobytes parts.rings ≡ map (sizes.kilobytes past sizes.rx_sizes) blocks.sockets
+
+-- What a command finds in the registers of socket n after this past, and whether the sizes are valid.
+pub record Found (past : Past) (n : ℕ) (at : CmdAt) : Type 0 where
+  pub sn : at.sn ≡ n
+  pub mode : at.mr ≡ mode past n
+  pub port : at.port ≡ source_port past n
+  pub to : at.to ≡ destination past n
+  pub valid : at.sizes_valid ≡ (sizes.sizes_valid past sizes.tx_sizes && sizes.sizes_valid past sizes.rx_sizes)

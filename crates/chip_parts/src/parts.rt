@@ -1,15 +1,21 @@
 //! The parts of the chip that its accesses and its link events reach.
-ghost use Rattle.std.specs.Prelude.{◌≡◌, ◌≢◌, ◌<◌, ℕ, IfOk, IfErr, OnOk, Some, None, [], ◌∷◌, false};
+ghost use Rattle.std.specs.Prelude.{◌≡◌, ◌≢◌, ◌<◌, ◌^◌, slice_index_or, ℕ, IfOk, IfErr, OnOk, Some, None, [], ◌∷◌, false};
 ghost use Rattle.board_bus.specs.declared.event.BusEvent.{BusEvent};
 ghost use Rattle.board_bus.specs.declared.event.BusAnswer.{BusAnswer};
 ghost use Rattle.chip_sheet.specs.declared.event.Entry.TheVariants.{Bus};
 ghost use Rattle.chip_sheet.specs.declared.phase.Access.TheVariants.{Write};
 ghost use Rattle.chip_sheet.specs.Past.{Past};
 ghost use Rattle.chip_sheet.specs.Frames.{access};
-ghost use Rattle.chip_sheet.specs.Names.{sn_cr};
+ghost use Rattle.chip_sheet.specs.Names.{sn_cr, send_command, recv_command};
+ghost use Rattle.sock_cmd.specs.declared.life.Life.{Life};
+ghost use Rattle.sock_cmd.specs.Lives.{life_of};
 ghost use Rattle.chip_sheet.specs.Sizes.{tx_sizes, rx_sizes, resizes};
 ghost use Rattle.chip_sheet.specs.Streams.{Starts};
 ghost use Rattle.chip_sheet.specs.Legal.{Legal};
+ghost use Rattle.chip_sheet.specs.Sending.{Sending};
+ghost use Rattle.chip_sheet.specs.Receiving.{Receiving};
+ghost use Rattle.ring_mem.specs.Buffers.{TxHolds, RxHolds, OthersSend, OthersReceive, tx_kilobytes, rx_kilobytes};
+ghost use Rattle.chip_parts.specs.Settling.{settled, got_settled};
 ghost use Rattle.chip_sheet.specs.Stops.{stop};
 ghost use Rattle.chip_sheet.specs.Answers as sheet;
 ghost use Rattle.chip_sheet.specs.Blocks.{block_of, registers_of, tx_buffer_of};
@@ -20,9 +26,13 @@ use chip_sheet::stop::ChipStop;
 use common_regs::registers::CommonRegs;
 use irq_lines::lines;
 use ring_mem::rings::Rings;
+use sock_cmd::command::{CmdAt, Effect};
 use sock_cmd::life::Life;
 use sock_regs::registers::SockRegs;
 use std::alloc::{AllocError, Global};
+
+/// Sn_CR.
+const COMMAND: u16 = 0x01;
 
 /// Sn_SR.
 const STATUS: u16 = 0x03;
@@ -33,6 +43,22 @@ const IR: u16 = 0x15;
 const IMR: u16 = 0x16;
 
 const SIMR: u16 = 0x18;
+
+/// Makes of the buffers of a socket what a command's effect makes of them, where it is no SEND and no RECV.
+fn settle(rings: &mut Rings, sn: u8, effect: Effect)
+    requires { sn < 8 }
+    ensures tx { (s : Sending) → TxHolds rings.old sn s → TxHolds rings.new sn (settled effect s) }
+    ensures rx { (g : Receiving) → RxHolds rings.old sn g → RxHolds rings.new sn (got_settled effect g) }
+    ensures others { OthersSend rings.old rings.new sn }
+    ensures rx_others { OthersReceive rings.old rings.new sn }
+    ensures sizes { (tx_kilobytes rings.new ≡ tx_kilobytes rings.old) × (rx_kilobytes rings.new ≡ rx_kilobytes rings.old) }
+{
+    match effect {
+        Effect::Opened => rings.begin(sn, 0, 0),
+        Effect::Closed => rings.empty(sn),
+        Effect::Nothing | Effect::Listen | Effect::Connect | Effect::Discon | Effect::Send | Effect::Recv => {}
+    }
+}
 
 /// The parts.
 #[derive(Drop)]
@@ -51,7 +77,7 @@ pub struct Parts {
 }
 
 impl Parts {
-    ghost use Rattle.chip_parts.specs.Holding.{Holds, Shows, OthersUntouched};
+    ghost use Rattle.chip_parts.specs.Holding.{Holds, Shows, OthersUntouched, Found};
 
     /// The parts after power-on.
     ///
@@ -155,5 +181,46 @@ impl Parts {
             → access past e ≡ Write (tx_buffer_of sn) addr v → stop starts past e ≡ Some s)) }
     {
         self.rings.tx_write(sn, addr, v)
+    }
+
+    /// What a command to a socket finds in its registers.
+    fn command_at(&self, sn: u8) -> CmdAt
+        requires { sn < 8 }
+        ensures { (starts : Starts) (past : Past) → Holds starts self.now past → Found past sn result }
+    {
+        let registers = &self.registers[sn as usize];
+        CmdAt {
+            sn,
+            mr: registers.mode(),
+            port: registers.port(),
+            to: registers.destination(),
+            sizes_valid: self.rings.sizes_valid(),
+        }
+    }
+
+    /// Takes a command that is no SEND and no RECV, which stand in functions of their own.
+    ///
+    /// # Errors
+    ///
+    /// The stop of the command exactly where it has one; nothing has then changed.
+    fn command(&mut self, sn: u8, v: u8) -> Result<(), ChipStop>
+        requires sn { sn < 8 }
+        requires no_send { v ≢ send_command }
+        requires no_recv { v ≢ recv_command }
+        requires few { (other : Life) → (life_of (slice_index_or self.old.lives sn other)).lives < 2 ^ 60 }
+        ensures ok { OnOk result ((starts : Starts) (past : Past) (e : BusEvent) (a : BusAnswer) → Holds starts self.old past → access past e ≡ Write (registers_of sn) sn_cr v
+            → (stop starts past e ≡ None) × Holds starts self.new (Bus e a ∷ past)) }
+        ensures err { IfErr result (λ s. (self.new ≡ self.old) × ((starts : Starts) (past : Past) (e : BusEvent) → Holds starts self.old past
+            → access past e ≡ Write (registers_of sn) sn_cr v → stop starts past e ≡ Some s)) }
+    {
+        let at = self.command_at(sn);
+        match self.lives[sn as usize].command(v, at) {
+            Err(stop) => Err(stop),
+            Ok(effect) => {
+                settle(&mut self.rings, sn, effect);
+                self.step_registers(sn, COMMAND, v, 0);
+                Ok(())
+            }
+        }
     }
 }
