@@ -1,6 +1,6 @@
 -- The parts after a command that is no SEND and no RECV, and its stop.
-use Rattle.std.proofs.Common.{◌≡◌, ◌≢◌, ◌<◌, ℕ, ◌+◌, ◌*◌, Bool, true, false, ◌&&◌, cond, eqb, ltb, List, [], ◌∷◌, length, set, get_or, Option, None, Some, refl, sym, ap, ◌∙◌, subst, arith}
-use Rattle.std.proofs.lemmas.Bool.{cond-false, and_from, eq-eqb, ne_eqb}
+use Rattle.std.proofs.Common.{◌≡◌, ◌≢◌, ◌<◌, ℕ, Bool, true, false, ◌&&◌, cond, eqb, ltb, List, [], ◌∷◌, length, set, get_or, Option, None, Some, refl, sym, ap, ◌∙◌, subst}
+use Rattle.std.proofs.lemmas.Bool.{and_from, eq-eqb, ne_eqb}
 use Rattle.std.proofs.lemmas.List.{get_or-set_same, get_or-set_other}
 use Rattle.board_bus.specs.declared.event.BusEvent.{BusEvent}
 use Rattle.board_bus.specs.declared.event.BusAnswer.{BusAnswer}
@@ -10,22 +10,18 @@ use Rattle.chip_sheet.specs.declared.phase.Access.{Access}
 use Rattle.chip_sheet.specs.declared.phase.Access.TheVariants.{Write}
 use Rattle.chip_sheet.specs.declared.socket.Cause.{Cause}
 use Rattle.chip_sheet.specs.declared.socket.Cause.TheVariants as because
-use Rattle.chip_sheet.specs.declared.socket.Status.{Status}
 use Rattle.chip_sheet.specs.declared.stop.ChipStop.{ChipStop}
 use Rattle.chip_sheet.specs.declared.stop.ChipStop.TheVariants.{SendBusy, SendTooLong, RecvPastEnd}
 use Rattle.chip_sheet.specs.Past.{Past}
-use Rattle.chip_sheet.specs.Frames.{access, access_of}
+use Rattle.chip_sheet.specs.Frames.{access}
 use Rattle.chip_sheet.specs.Blocks.{registers_of}
-use Rattle.chip_sheet.specs.Registers.{is_reset}
-use Rattle.chip_sheet.specs.Life as sheet
-use Rattle.chip_sheet.specs.Life.{cause, cause_by, command, opening, protocol, protocol_of, mode, status, is_udp}
+use Rattle.chip_sheet.specs.Life.{cause, cause_by, command, opening, protocol, protocol_of, status, is_udp}
 use Rattle.chip_sheet.specs.Peers.{destination, source_port}
 use Rattle.chip_sheet.specs.Sending.{Sending}
 use Rattle.chip_sheet.specs.Receiving.{Receiving}
 use Rattle.chip_sheet.specs.Streams.{Starts, sends, is_open}
 use Rattle.chip_sheet.specs.Buffers.{sending, receiving}
-use Rattle.chip_sheet.specs.Stops.{stop, first, where_it, command_facts, CommandFacts, command_stop, send_busy, send_too_long, recv_past_end}
-use Rattle.chip_sheet.specs.Quiet.{Untouched}
+use Rattle.chip_sheet.specs.Stops.{stop, first, where_it, command_facts, send_busy, send_too_long, recv_past_end}
 use Rattle.chip_sheet.proofs.SendLaws.{command_cause}
 use Rattle.chip_steps.specs.Steps.{writes_command_alone, is_quiet}
 use Rattle.chip_steps.proofs.Writing.{alone}
@@ -44,7 +40,7 @@ use Rattle.ring_mem.specs.Buffers.{TxHolds, RxHolds, OthersSend, OthersReceive, 
 use Rattle.chip_parts.specs.declared.parts.Parts.{Parts}
 use Rattle.chip_parts.specs.Holding.{Holds, Shows, Found, OthersUntouched}
 use Rattle.chip_parts.specs.Settling.{settled, got_settled}
-use Rattle.chip_parts.proofs.Stepping.{no_reset_there, not_common}
+use Rattle.chip_parts.proofs.Stepping.{not_common}
 use Rattle.chip_parts.proofs.Assembly.{one_steps}
 use Rattle.chip_parts.proofs.Settling.{sent_settled, received_settled}
 
@@ -120,11 +116,11 @@ command_steps starts past e a sn v old new at effect rings before after below wi
     let lives : new.lives ≡ set old.lives sn after = ap (λ (p : Parts). p.lives) same in
     let new_rings : new.rings ≡ rings = ap (λ (p : Parts). p.rings) same in
     let now : IsAfter after (entry ∷ past) sn =
-        goes_on before after past entry sn life (happened_so before after (cause_of v at) (cause past sn entry) at.to (destination past sn) at.port (source_port past sn) why found.to found.port happened) in
+    goes_on before after past entry sn life (happened_so before after (cause_of v at) (cause past sn entry) at.to (destination past sn) at.port (source_port past sn) why found.to found.port happened) in
     let sent : sending starts (entry ∷ past) sn ≡ settled effect (sending starts past sn) =
-        sent_settled starts past entry sn by_itself quiet ∙ sym (ap (λ (x : Effect). settled x (sending starts past sn)) effect_is) in
+    sent_settled starts past entry sn by_itself quiet ∙ sym (ap (λ (x : Effect). settled x (sending starts past sn)) effect_is) in
     let received : receiving starts (entry ∷ past) sn ≡ got_settled effect (receiving starts past sn) =
-        received_settled starts past entry sn by_itself quiet ∙ sym (ap (λ (x : Effect). got_settled x (receiving starts past sn)) effect_is) in
+    received_settled starts past entry sn by_itself quiet ∙ sym (ap (λ (x : Effect). got_settled x (receiving starts past sn)) effect_is) in
     one_steps starts past entry sn old new held
     (record {
       on = only.reset;

@@ -3,4 +3,5 @@
 //! [`parts::Parts`] takes accesses and link events, and answers what the datasheet says for them after all that happened so far.
 #![tactic(auto)]
 
+pub mod laws;
 pub mod parts;

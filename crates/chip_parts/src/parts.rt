@@ -56,7 +56,12 @@ fn settle(rings: &mut Rings, sn: u8, effect: Effect)
     match effect {
         Effect::Opened => rings.begin(sn, 0, 0),
         Effect::Closed => rings.empty(sn),
-        Effect::Nothing | Effect::Listen | Effect::Connect | Effect::Discon | Effect::Send | Effect::Recv => {}
+        Effect::Nothing
+        | Effect::Listen
+        | Effect::Connect
+        | Effect::Discon
+        | Effect::Send
+        | Effect::Recv => {}
     }
 }
 

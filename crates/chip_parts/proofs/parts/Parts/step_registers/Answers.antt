@@ -10,7 +10,7 @@ returns-clause-shows c = λ starts past e a held is raised others.
     let regs = c.args.self.now.registers in
     let f = socket_register starts (Bus e a ∷ past) sn in
     let own = written_reads starts past e a sn c.args.addr c.args.v c.args.bits _ c.write.new.self c.raise.new.self
-        (held.registers sn _ c.requires) c.write.ensures c.raise.ensures is raised in
+    (held.registers sn _ c.requires) c.write.ensures c.raise.ensures is raised in
     let within : sn < length regs = omega (arith, c.requires) in
     record {
       registers = all_read starts past (Bus e a) sn regs c.raise.new.self within own held.registers others;
