@@ -58,7 +58,7 @@ fn total(ks: &[u8]) -> u32
 }
 
 /// Whether the eight sizes of a direction fit its memory of 16 KB.
-fn are_valid(ks: &[u8; 8]) -> bool
+pub fn are_valid(ks: &[u8; 8]) -> bool
     ensures { result ≡ sheet.are_valid ks.now }
 {
     all_sizes(ks) && total(ks) <= 16

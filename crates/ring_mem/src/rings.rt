@@ -1,13 +1,14 @@
 //! The buffers of the eight sockets, both directions.
 
-ghost use Rattle.std.specs.Prelude.{◌≡◌, ◌≢◌, ◌≤◌, ◌<◌, ◌+◌, ◌-◌, ◌%◌, ◌++◌, [], ℕ, Some, None, IfOk, IfErr, length, take, slice_index, replicate};
+ghost use Rattle.std.specs.Prelude.{◌≡◌, ◌≢◌, ◌≤◌, ◌<◌, ◌+◌, ◌-◌, ◌%◌, ◌++◌, ◌&&◌, [], ℕ, Some, None, IfOk, IfErr, length, take, slice_index, replicate};
 ghost use Rattle.std.specs.Borrow.{sem};
-ghost use Rattle.chip_sheet.specs.Sizes.{size_among};
+ghost use Rattle.chip_sheet.specs.Sizes.{size_among, are_valid};
 ghost use Rattle.chip_sheet.specs.Sending as sending;
 ghost use Rattle.chip_sheet.specs.Sending.{Sending, in_flight_at, in_flight, offered_length, range_length, passes_end, tx_pointer, after_write, after_commit, after_taken};
 ghost use Rattle.chip_sheet.specs.Receiving as receiving;
 ghost use Rattle.chip_sheet.specs.Receiving.{Receiving, rx_byte, rx_pointer, release_length, after_got, after_release};
 
+use crate::layout;
 use crate::receives::Receives;
 use crate::sends::Sends;
 use chip_sheet::stop::ChipStop;
@@ -53,6 +54,13 @@ impl Rings {
     {
         self.tx.set_sizes(tx);
         self.rx.set_sizes(rx);
+    }
+
+    /// Whether the eight sizes of each direction fit its memory.
+    pub fn sizes_valid(&self) -> bool
+        ensures { result ≡ (are_valid (tx_kilobytes self.now) && are_valid (rx_kilobytes self.now)) }
+    {
+        layout::are_valid(&self.tx.layout.kilobytes) && layout::are_valid(&self.rx.layout.kilobytes)
     }
 
     /// Makes all as `new` made it, as a software reset does.

@@ -1,5 +1,5 @@
 mod Tables
-mod PlaceTable
+pub mod PlaceTable
 mod Steps
-mod BitBytes
+pub mod BitBytes
 pub mod History

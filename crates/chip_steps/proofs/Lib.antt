@@ -1,0 +1,10 @@
+pub mod Going
+pub mod Writing
+pub mod Lists
+pub mod SendingSteps
+pub mod ReceivingSteps
+pub mod WindowSteps
+pub mod Elsewhere
+pub mod StopSteps
+pub mod BitSteps
+pub mod ReadSteps
