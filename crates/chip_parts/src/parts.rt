@@ -45,7 +45,7 @@ const IMR: u16 = 0x16;
 const SIMR: u16 = 0x18;
 
 /// Makes of the buffers of a socket what a command's effect makes of them, where it is no SEND and no RECV.
-fn settle(rings: &mut Rings, sn: u8, effect: Effect)
+pub(crate) fn settle(rings: &mut Rings, sn: u8, effect: Effect)
     requires { sn < 8 }
     ensures tx { (s : Sending) → TxHolds rings.old sn s → TxHolds rings.new sn (settled effect s) }
     ensures rx { (g : Receiving) → RxHolds rings.old sn g → RxHolds rings.new sn (got_settled effect g) }
@@ -65,20 +65,23 @@ fn settle(rings: &mut Rings, sn: u8, effect: Effect)
     }
 }
 
-/// The parts.
+/// The parts. The crates that make the chip of them reach each for itself.
 #[derive(Drop)]
 pub struct Parts {
-    common: CommonRegs,
+    /// The common register block.
+    pub common: CommonRegs,
     /// The registers of each socket, but for those that its life and its buffers answer.
-    registers: [SockRegs; 8],
+    pub registers: [SockRegs; 8],
     /// The life of each socket.
-    lives: [Life; 8],
-    rings: Rings,
+    pub lives: [Life; 8],
+    /// The buffers of all sockets.
+    pub rings: Rings,
     /// What SIR reads.
-    sir: u8,
-    /// Where the positions of a connection begin.
-    tx_start: u16,
-    rx_start: u16,
+    pub sir: u8,
+    /// Where the positions of what a connection sends begin.
+    pub tx_start: u16,
+    /// Where the positions of what a connection receives begin.
+    pub rx_start: u16,
 }
 
 impl Parts {
@@ -149,7 +152,7 @@ impl Parts {
     }
 
     /// Writes a byte to the registers of a socket, raises these bits of Sn_IR, and renews the socket's bit of SIR.
-    fn step_registers(&mut self, sn: u8, addr: u16, v: u8, bits: u8)
+    pub(crate) fn step_registers(&mut self, sn: u8, addr: u16, v: u8, bits: u8)
         requires { sn < 8 }
         ensures shows { (starts : Starts) (past : Past) (e : BusEvent) (a : BusAnswer) → Shows starts self.old past → access past e ≡ Write (registers_of sn) addr v
             → bits ≡ interrupts_by starts past sn (Bus e a) → OthersUntouched past (Bus e a) sn → Shows starts self.new (Bus e a ∷ past) }
@@ -164,7 +167,7 @@ impl Parts {
     }
 
     /// Writes a byte of the register block of a socket that is neither a command nor another size of a buffer.
-    fn write_plain(&mut self, sn: u8, addr: u16, v: u8)
+    pub(crate) fn write_plain(&mut self, sn: u8, addr: u16, v: u8)
         requires { sn < 8 }
         ensures { (starts : Starts) (past : Past) (e : BusEvent) (a : BusAnswer) → Holds starts self.old past → access past e ≡ Write (registers_of sn) addr v → addr ≢ sn_cr
             → resizes past tx_sizes (access past e) ≡ false → resizes past rx_sizes (access past e) ≡ false → Holds starts self.new (Bus e a ∷ past) }
@@ -178,7 +181,7 @@ impl Parts {
     /// # Errors
     ///
     /// `OverwriteInFlight` exactly where the place holds a byte in flight; nothing has then changed.
-    fn write_tx(&mut self, sn: u8, addr: u16, v: u8) -> Result<(), ChipStop>
+    pub(crate) fn write_tx(&mut self, sn: u8, addr: u16, v: u8) -> Result<(), ChipStop>
         requires { sn < 8 }
         ensures ok { OnOk result ((starts : Starts) (past : Past) (e : BusEvent) (a : BusAnswer) → Legal starts past → Holds starts self.old past → access past e ≡ Write (tx_buffer_of sn) addr v
             → (stop starts past e ≡ None) × Holds starts self.new (Bus e a ∷ past)) }
@@ -189,7 +192,7 @@ impl Parts {
     }
 
     /// What a command to a socket finds in its registers.
-    fn command_at(&self, sn: u8) -> CmdAt
+    pub(crate) fn command_at(&self, sn: u8) -> CmdAt
         requires { sn < 8 }
         ensures { (starts : Starts) (past : Past) → Holds starts self.now past → Found past sn result }
     {
@@ -208,7 +211,7 @@ impl Parts {
     /// # Errors
     ///
     /// The stop of the command exactly where it has one; nothing has then changed.
-    fn command(&mut self, sn: u8, v: u8) -> Result<(), ChipStop>
+    pub(crate) fn command(&mut self, sn: u8, v: u8) -> Result<(), ChipStop>
         requires sn { sn < 8 }
         requires no_send { v ≢ send_command }
         requires no_recv { v ≢ recv_command }
