@@ -68,7 +68,7 @@ register_bit starts past n SendOk = bit_of starts past n 4 (omega arith)
 sum_eight : (a b c d e f g h : ℕ) → a + (b + (c + (d + (e + (f + (g + (h + 0))))))) ≡ 0 + a + b + c + d + e + f + g + h
 sum_eight a b c d e f g h = omega arith
 
-sir_is : (starts : Starts) (past : Past) → sir_register starts past ≡ bit_sum (asks starts past) 8
+pub sir_is : (starts : Starts) (past : Past) → sir_register starts past ≡ bit_sum (asks starts past) 8
 sir_is starts past =
     sum_eight (cond (asks starts past 0) 1 0) (cond (asks starts past 1) 2 0) (cond (asks starts past 2) 4 0) (cond (asks starts past 3) 8 0)
     (cond (asks starts past 4) 16 0) (cond (asks starts past 5) 32 0) (cond (asks starts past 6) 64 0) (cond (asks starts past 7) 128 0)

@@ -1,6 +1,5 @@
 pub mod FrameLaws
 mod LegalPlaces
-pub mod BuiltPast
 pub mod SentLaws
 pub mod StopRows
 pub mod Within
@@ -19,3 +18,4 @@ pub mod MadeLaws
 pub mod LivesLaws
 pub mod SendLaws
 pub mod DatagramLaws
+pub mod Tables

@@ -192,7 +192,7 @@ leaves_life starts past entry n h = record {
 }
 
 -- The registers and the buffer.
-not_written : (made : Access) (bits at : ℕ) → writes_to made bits ≡ false → written_by made bits at ≡ None
+pub not_written : (made : Access) (bits at : ℕ) → writes_to made bits ≡ false → written_by made bits at ≡ None
 not_written NoAccess bits at h = refl
 not_written (Read block addr) bits at h = refl
 not_written (Write block addr v) bits at h = cond-false (eqb block bits && eqb addr at) (Some v) None (and_left (eqb block bits) (eqb addr at) h)

@@ -24,6 +24,3 @@ pub mod Quiet
 pub mod Stops
 pub mod Legal
 pub mod Replay
-pub mod BuiltAnswers
-pub mod BuiltStops
-pub mod BuiltLegal

@@ -5,7 +5,6 @@
 #![tactic(auto)]
 
 pub mod block;
-pub mod built_laws;
 pub mod event;
 pub mod laws;
 pub mod phase;

@@ -65,11 +65,3 @@ pub enum ChipStop {
         there: u32,
     },
 }
-
-/// Why the chip as it is built so far answers no event.
-#[derive(Clone, Copy, Debug, PartialEq, Eq)]
-pub enum Unbuilt {
-    /// The event reaches a part of the chip that is not built yet: another block than the common register block, or PPPoE
-    /// mode (MR bit 3).
-    NotBuilt,
-}

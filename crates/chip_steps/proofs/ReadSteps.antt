@@ -25,7 +25,7 @@ use Rattle.chip_sheet.specs.SocketBlock.{Shows, Written, Constant, Peer, Raised,
 use Rattle.chip_sheet.specs.Quiet.{writes_to, Untouched, LeavesAll}
 use Rattle.chip_sheet.proofs.Quiet.{leaves_all, pointer_same}
 use Rattle.chip_sheet.proofs.SizeLaws.{kilobytes_kept}
-use Rattle.chip_steps.proofs.Writing.{not_written}
+use Rattle.chip_sheet.proofs.Quiet.{not_written}
 use Rattle.chip_steps.proofs.WindowSteps.{end_is}
 
 tx_rd_is : (starts : Starts) (past : Past) (n : ℕ) → tx_rd starts past n ≡ sends.next_to_send (sending starts past n) % 65536

@@ -31,7 +31,8 @@ use Rattle.chip_sheet.proofs.SizeLaws.{size_kept}
 use Rattle.chip_sheet.proofs.Quiet.{no_reset, leaves_life}
 use Rattle.chip_steps.specs.Steps.{writes_command_alone, leaves_got}
 use Rattle.chip_steps.proofs.Going.{GoesOn, got_goes, goes_by, opened_same, lives_same, lives_more, status_next, rx_base_same, pointer_begins, not_made, opened_open, open_not_closed, own_cause, own_life, making}
-use Rattle.chip_steps.proofs.Writing.{alone, pointer_kept, pointer_written, not_written, resizing_rx}
+use Rattle.chip_sheet.proofs.Quiet.{not_written}
+use Rattle.chip_steps.proofs.Writing.{alone, pointer_kept, pointer_written, resizing_rx}
 use Rattle.chip_steps.proofs.Lists.{got_same, released_same, got_stays}
 
 opened_list : (b c : Bool) (x y : List ℕ) → b ≡ c → x ≡ y → cond b x [] ≡ cond c y []

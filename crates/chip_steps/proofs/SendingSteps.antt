@@ -30,7 +30,8 @@ use Rattle.chip_sheet.proofs.SizeLaws.{size_kept}
 use Rattle.chip_sheet.proofs.Quiet.{no_reset, leaves_life}
 use Rattle.chip_steps.specs.Steps.{writes_command_alone, leaves_sent}
 use Rattle.chip_steps.proofs.Going.{GoesOn, sent_goes, goes_by, opened_same, lives_same, lives_more, status_next, tx_base_same, pointer_begins, not_made, opened_open, open_not_closed, own_cause, own_life, making}
-use Rattle.chip_steps.proofs.Writing.{alone, tx_kept, tx_cleared, pointer_kept, pointer_written, not_written, registers_alone, resizing_tx, filling}
+use Rattle.chip_sheet.proofs.Quiet.{not_written}
+use Rattle.chip_steps.proofs.Writing.{alone, tx_kept, tx_cleared, pointer_kept, pointer_written, registers_alone, resizing_tx, filling}
 use Rattle.chip_steps.proofs.Lists.{sent_same, ends_same, taken_same, taken_stays, begun_ends, fresh_ends, ends_by_fresh, bytes_length}
 
 opened_list : (b c : Bool) (x y : List ℕ) → b ≡ c → x ≡ y → cond b x [] ≡ cond c y []

@@ -136,11 +136,6 @@ pointer_written past entry n addr v at start on is =
     ∙ ap (λ (made : Access). unwrap_or (written_by made (registers_of n) at) before) is
     ∙ here_or (eqb (registers_of n) (registers_of n)) (eqb addr at) v before (eq-eqb (registers_of n) (registers_of n) refl)
 
-pub not_written : (made : Access) (bits at : ℕ) → writes_to made bits ≡ false → written_by made bits at ≡ None
-not_written NoAccess bits at h = refl
-not_written (Read block addr) bits at h = refl
-not_written (Write block addr v) bits at h = cond-false (eqb block bits && eqb addr at) (Some v) None (and_left (eqb block bits) (eqb addr at) h)
-
 -- A write to the socket's registers is none to its TX buffer.
 pub registers_alone : (made : Access) (n addr v : ℕ) → made ≡ Write (registers_of n) addr v → writes_to made (tx_buffer_of n) ≡ false
 registers_alone made n addr v is =

@@ -7,7 +7,7 @@ use Rattle.chip_sheet.specs.CommonBlock.{Rule, Stored, ReadOnly, LinkUp, Registe
 use Rattle.chip_sheet.specs.Registers.{common_register, shown}
 use Rattle.common_regs.specs.declared.registers.TheConstants.{RESET}
 use Rattle.common_regs.specs.Places.{is_stored, kept_of}
-use Rattle.common_regs.proofs.Tables.{table, same_at}
+use Rattle.chip_sheet.proofs.Tables.{table, same_at}
 
 -- each register ends below n
 abbrev end_below : List Register → ℕ → Bool

@@ -1,3 +1,2 @@
-mod Tables
 mod CommonPlaces
 pub mod Steps

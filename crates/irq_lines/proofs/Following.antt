@@ -12,17 +12,9 @@ use Rattle.chip_sheet.specs.Registers.{common_register}
 use Rattle.chip_sheet.specs.Streams.{Starts}
 use Rattle.chip_sheet.specs.Interrupts.{interrupt_register, mask, asks, sir_register, enabled_sockets, interrupt_low}
 use Rattle.chip_sheet.proofs.BitSums.{bit_sum, bit_sum_small}
-use Rattle.chip_sheet.proofs.InterruptBits.{asks_masked, sir_bit, low_enabled}
+use Rattle.chip_sheet.proofs.InterruptBits.{asks_masked, sir_is, sir_bit, low_enabled}
 use Rattle.irq_lines.specs.Lines.{meets, is_low, ShowsEach}
 use Rattle.irq_lines.proofs.Bytes.{same_byte}
-
-sum_eight : (a b c d e f g h : ℕ) → a + (b + (c + (d + (e + (f + (g + (h + 0))))))) ≡ 0 + a + b + c + d + e + f + g + h
-sum_eight a b c d e f g h = omega arith
-
-sir_is : (starts : Starts) (past : Past) → sir_register starts past ≡ bit_sum (asks starts past) 8
-sir_is starts past =
-    sum_eight (cond (asks starts past 0) 1 0) (cond (asks starts past 1) 2 0) (cond (asks starts past 2) 4 0) (cond (asks starts past 3) 8 0)
-    (cond (asks starts past 4) 16 0) (cond (asks starts past 5) 32 0) (cond (asks starts past 6) 64 0) (cond (asks starts past 7) 128 0)
 
 pub small : (starts : Starts) (past : Past) → sir_register starts past < 256
 small starts past = let is = sir_is starts past in let less = bit_sum_small (asks starts past) 8 in omega (arith, is, less)

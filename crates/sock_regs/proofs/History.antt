@@ -31,7 +31,7 @@ use Rattle.chip_sheet.specs.Streams.{Starts}
 use Rattle.chip_sheet.specs.Interrupts.{bit_value, raised, raised_by, raised_by_life, raised_by_bytes, interrupts_by, interrupt_register, clears, mask}
 use Rattle.chip_sheet.specs.SocketBlock.{Shows, Written, Constant, Peer, Raised, socket_place, socket_register, shown_by}
 use Rattle.chip_sheet.proofs.BitSums.{bit_sum}
-use Rattle.chip_sheet.proofs.Quiet.{leaves_life}
+use Rattle.chip_sheet.proofs.Quiet.{leaves_life, not_written}
 use Rattle.sock_regs.specs.Places.{is_kept, kept, with_bits, with_peer, accepted_by, reset_value, after_write, after_raise, after_peer, port_in, address_in}
 use Rattle.sock_regs.proofs.BitBytes.{or_sum, or_none, cleared_sum, same_sum}
 use Rattle.sock_regs.proofs.PlaceTable.{is_raised, raised_is, raised_reset}
@@ -246,11 +246,6 @@ pub fresh : (starts : Starts) (n at : ℕ) → is_kept (socket_place at).shows �
 fresh starts n at here = fresh_step (socket_place at).shows starts n at (socket_place at).reset (socket_place at).index (raised_reset at) here
 
 -- An entry that is none of these.
-not_written : (made : Access) (bits at : ℕ) → writes_to made bits ≡ false → written_by made bits at ≡ None
-not_written NoAccess bits at h = refl
-not_written (Read block addr) bits at h = refl
-not_written (Write block addr v) bits at h = cond-false (eqb block bits && eqb addr at) (Some v) None (and_left (eqb block bits) (eqb addr at) h)
-
 still_written : (past : Past) (entry : Entry) (n at : ℕ) → is_reset (access_of past entry) ≡ false → writes_to (access_of past entry) (registers_of n) ≡ false
     → last_written past (registers_of n) at ≡ last_written (entry ∷ past) (registers_of n) at
 still_written past entry n at running other =

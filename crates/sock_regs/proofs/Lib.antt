@@ -1,4 +1,3 @@
-mod Tables
 pub mod PlaceTable
 mod Steps
 pub mod BitBytes

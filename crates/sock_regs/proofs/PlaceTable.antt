@@ -9,7 +9,7 @@ use Rattle.chip_sheet.specs.declared.event.Addr.{Addr}
 use Rattle.chip_sheet.specs.SocketBlock.{Shows, Raised, Register, Place, reserved, socket_registers, place_in, socket_place}
 use Rattle.sock_regs.specs.declared.registers.TheConstants.{RESET}
 use Rattle.sock_regs.specs.Places.{is_kept, kept, with_bits, with_peer, is_here, is_stored}
-use Rattle.sock_regs.proofs.Tables.{table, same_at}
+use Rattle.chip_sheet.proofs.Tables.{table, same_at}
 
 -- each register ends below n
 abbrev end_below : List Register → ℕ → Bool
