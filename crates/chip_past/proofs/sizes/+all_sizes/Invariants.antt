@@ -1,5 +1,0 @@
-use Rattle.std.proofs.Common.{length}
-use Rattle.chip_past.proofs.sizes.+all_sizes.Given as goal
-
-abbrev pub decreases-all_sizes : goal.decreases-all_sizes
-decreases-all_sizes l = length l.ks.now

@@ -1,4 +1,0 @@
-pub mod SocketPlaces
-pub mod BlockAccesses
-pub mod History
-pub mod Plainly

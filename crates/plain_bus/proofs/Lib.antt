@@ -1,4 +1,0 @@
-mod Fronts
-mod Joined
-mod Runs
-mod Spaces

@@ -1,9 +1,0 @@
-pub mod Text
-pub mod Stops
-pub mod Run
-pub mod Joined
-pub mod Taken
-pub mod Gives
-pub mod Ends
-pub mod Words
-pub mod Outcome
