@@ -1,8 +1,8 @@
 mod Reading
-mod Eight
-mod Stepping
-mod Assembly
-mod Buffers
-mod Outcomes
+pub mod Eight
+pub mod Stepping
+pub mod Assembly
+pub mod Buffers
+pub mod Outcomes
 mod Settling
 mod Commands
