@@ -6,3 +6,6 @@ mod Buffers
 mod Outcomes
 mod Settling
 mod Commands
+mod Taking
+mod SendCommands
+mod RecvCommands

@@ -3,5 +3,7 @@
 //! [`parts::Parts`] takes accesses and link events, and answers what the datasheet says for them after all that happened so far.
 #![tactic(auto)]
 
+pub mod command_bytes;
 pub mod laws;
 pub mod parts;
+pub mod sending;
