@@ -6,3 +6,7 @@ mod Buffers
 mod Outcomes
 mod Settling
 mod Commands
+mod Closed
+mod Resetting
+mod Sizing
+mod Passing

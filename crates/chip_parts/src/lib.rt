@@ -3,5 +3,7 @@
 //! [`parts::Parts`] takes accesses and link events, and answers what the datasheet says for them after all that happened so far.
 #![tactic(auto)]
 
+mod common;
 pub mod laws;
 pub mod parts;
+mod sizes;
