@@ -10,3 +10,6 @@ mod Closed
 mod Resetting
 mod Sizing
 mod Passing
+mod Taking
+mod SendCommands
+mod RecvCommands
