@@ -3,7 +3,10 @@
 //! [`parts::Parts`] takes accesses and link events, and answers what the datasheet says for them after all that happened so far.
 #![tactic(auto)]
 
-pub mod command_bytes;
+mod command_bytes;
+mod common;
 pub mod laws;
 pub mod parts;
-pub mod sending;
+mod sending;
+mod sizes;
+mod writing;
