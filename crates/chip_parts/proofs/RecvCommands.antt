@@ -1,13 +1,11 @@
 -- RECV: its stop, what it raises, and the two directions after it.
-use Rattle.std.proofs.Common.{◌≡◌, ◌≤◌, ◌<◌, ℕ, ◌-◌, Bool, true, false, not, ◌&&◌, cond, ltb, [], ◌∷◌, Option, None, Some, refl, sym, ap, ◌∙◌}
+use Rattle.std.proofs.Common.{◌≡◌, ◌≤◌, ◌<◌, ℕ, ◌-◌, Bool, true, false, not, ◌&&◌, cond, ltb, [], ◌∷◌, Option, None, Some, sym, ap, ◌∙◌}
 use Rattle.std.proofs.lemmas.Bool.{lt-ltb, le-ltb}
 use Rattle.board_bus.specs.declared.event.BusEvent.{BusEvent}
 use Rattle.board_bus.specs.declared.event.BusAnswer.{BusAnswer}
 use Rattle.chip_sheet.specs.declared.event.Entry.{Entry}
 use Rattle.chip_sheet.specs.declared.event.Entry.TheVariants.{Bus}
 use Rattle.chip_sheet.specs.declared.phase.Access.TheVariants.{Write}
-use Rattle.chip_sheet.specs.declared.socket.Status.{Status}
-use Rattle.chip_sheet.specs.declared.socket.Status.TheVariants.{Closed, Init}
 use Rattle.chip_sheet.specs.declared.socket.Cause.{Cause}
 use Rattle.chip_sheet.specs.declared.socket.Cause.TheVariants as because
 use Rattle.chip_sheet.specs.declared.stop.ChipStop.{ChipStop}
@@ -15,7 +13,7 @@ use Rattle.chip_sheet.specs.declared.stop.ChipStop.TheVariants.{RecvPastEnd}
 use Rattle.chip_sheet.specs.Past.{Past}
 use Rattle.chip_sheet.specs.Frames.{access, access_of}
 use Rattle.chip_sheet.specs.Blocks.{registers_of}
-use Rattle.chip_sheet.specs.Life.{Facts, facts_of, life, next, cause, status, lives}
+use Rattle.chip_sheet.specs.Life.{cause, status, lives}
 use Rattle.chip_sheet.specs.Receiving as receives_of
 use Rattle.chip_sheet.specs.Receiving.{Receiving}
 use Rattle.chip_sheet.specs.Streams.{Starts, released, release_length, is_open}
@@ -25,40 +23,28 @@ use Rattle.chip_sheet.specs.Interrupts.{interrupts_by}
 use Rattle.chip_sheet.specs.Legal.{Legal}
 use Rattle.chip_sheet.specs.Stops.{stop, first, where_it, command_facts}
 use Rattle.chip_steps.specs.Steps.{writes_command_alone, leaves_sent, leaves_got}
-use Rattle.chip_steps.proofs.Going.{status_next}
 use Rattle.chip_steps.proofs.BitSteps.{receive_raises}
 use Rattle.chip_steps.proofs.SendingSteps as tx_steps
 use Rattle.chip_steps.proofs.ReceivingSteps as rx_steps
 use Rattle.chip_steps.proofs.StopSteps.{writes_command}
 use Rattle.chip_steps.proofs.WindowSteps.{release_is}
 use Rattle.sock_cmd.proofs.StopOrder.{in_order}
-use Rattle.chip_parts.proofs.Taking.{why_is}
+use Rattle.chip_parts.proofs.Taking.{why_is, status_kept}
 
 -- The write is RECV.
 pub is_recv : (past : Past) (e : BusEvent) (a : BusAnswer) (n : ℕ) → access past e ≡ Write (registers_of n) 0x01 0x40 → cause past n (Bus e a) ≡ because.Receive
 is_recv past e a n is = why_is past e a n 0x40 is
 
--- It moves no socket to another status.
-receive_next : (at : Status) (facts : Facts) → next at because.Receive facts ≡ at
-receive_next Closed facts = refl
-receive_next Init facts = refl
-receive_next at facts = refl
-
-status_kept : (past : Past) (entry : Entry) (n : ℕ) → cause past n entry ≡ because.Receive → status (entry ∷ past) n ≡ status past n
-status_kept past entry n why =
-    let at = life past n in
-    status_next at (cause past n entry) ∙ ap (λ (w : Cause). next at.status w (facts_of w at)) why ∙ receive_next at.status (facts_of because.Receive at)
-
 -- What is sent stays, and what is received where the status is not open.
 pub recv_leaves_sent : (starts : Starts) (past : Past) (entry : Entry) (n : ℕ) → writes_command_alone (access_of past entry) n ≡ true → cause past n entry ≡ because.Receive
     → sending starts (entry ∷ past) n ≡ sending starts past n
 recv_leaves_sent starts past entry n by_itself why =
-    tx_steps.stays starts past entry n by_itself (ap (λ (w : Cause). leaves_sent w (status past n)) why) (ap is_open (status_kept past entry n why))
+    tx_steps.stays starts past entry n by_itself (ap (λ (w : Cause). leaves_sent w (status past n)) why) (ap is_open (status_kept past entry n because.Receive why rx_steps.receive_next))
 
 pub ignored_leaves_got : (starts : Starts) (past : Past) (entry : Entry) (n : ℕ) → writes_command_alone (access_of past entry) n ≡ true → cause past n entry ≡ because.Receive → is_open (status past n) ≡ false
     → receiving starts (entry ∷ past) n ≡ receiving starts past n
 ignored_leaves_got starts past entry n by_itself why off =
-    rx_steps.stays starts past entry n by_itself (ap (λ (w : Cause). leaves_got w (status past n)) why ∙ ap not off) (ap is_open (status_kept past entry n why))
+    rx_steps.stays starts past entry n by_itself (ap (λ (w : Cause). leaves_got w (status past n)) why ∙ ap not off) (ap is_open (status_kept past entry n because.Receive why rx_steps.receive_next))
 
 -- RECV rises where bytes remain.
 pub ignored_raises : (starts : Starts) (past : Past) (entry : Entry) (n : ℕ) → cause past n entry ≡ because.Receive → is_open (status past n) ≡ false → 0 ≡ interrupts_by starts past n entry

@@ -5,15 +5,17 @@ use Rattle.std.proofs.lemmas.Bool.{and_from, eq-eqb}
 use Rattle.board_bus.specs.declared.event.BusEvent.{BusEvent}
 use Rattle.board_bus.specs.declared.event.BusAnswer.{BusAnswer}
 use Rattle.chip_sheet.specs.declared.event.Addr.{Addr}
+use Rattle.chip_sheet.specs.declared.event.Entry.{Entry}
 use Rattle.chip_sheet.specs.declared.event.Entry.TheVariants.{Bus}
 use Rattle.chip_sheet.specs.declared.phase.Access.{Access}
 use Rattle.chip_sheet.specs.declared.phase.Access.TheVariants.{Write}
+use Rattle.chip_sheet.specs.declared.socket.Status.{Status}
 use Rattle.chip_sheet.specs.declared.socket.Cause.{Cause}
 use Rattle.chip_sheet.specs.declared.stop.ChipStop.{ChipStop}
 use Rattle.chip_sheet.specs.Past.{Past}
 use Rattle.chip_sheet.specs.Frames.{access}
 use Rattle.chip_sheet.specs.Blocks.{registers_of}
-use Rattle.chip_sheet.specs.Life.{cause, cause_by, command, protocol, protocol_of}
+use Rattle.chip_sheet.specs.Life.{Facts, facts_of, life, next, cause, cause_by, command, protocol, protocol_of, status}
 use Rattle.chip_sheet.specs.Peers.{destination, source_port}
 use Rattle.chip_sheet.specs.Sending.{Sending}
 use Rattle.chip_sheet.specs.Receiving.{Receiving}
@@ -21,6 +23,7 @@ use Rattle.chip_sheet.specs.Streams.{Starts}
 use Rattle.chip_sheet.specs.Buffers.{sending, receiving}
 use Rattle.chip_sheet.proofs.SendLaws.{command_cause}
 use Rattle.chip_steps.specs.Steps.{writes_command_alone}
+use Rattle.chip_steps.proofs.Going.{status_next}
 use Rattle.chip_steps.proofs.Writing.{alone}
 use Rattle.chip_steps.proofs.Elsewhere.{other_registers}
 use Rattle.sock_cmd.specs.declared.life.Life.{Life}
@@ -66,6 +69,12 @@ life_goes past e a sn v at before after is found was happened =
     let entry = Bus e a in
     let why : cause_of v at ≡ cause past sn entry = ap (λ (m : ℕ). command (protocol_of m) v) found.mode ∙ sym (why_is past e a sn v is) in
     goes_on before after past entry sn was (happened_so before after (cause_of v at) (cause past sn entry) at.to (destination past sn) at.port (source_port past sn) why found.to found.port happened)
+
+-- A command that moves no socket to another status leaves its status.
+pub status_kept : (past : Past) (entry : Entry) (n : ℕ) (why : Cause) → cause past n entry ≡ why → ((at : Status) (facts : Facts) → next at why facts ≡ at) → status (entry ∷ past) n ≡ status past n
+status_kept past entry n why is stays =
+    let at = life past n in
+    status_next at (cause past n entry) ∙ ap (λ (w : Cause). next at.status w (facts_of w at)) is ∙ stays at.status (facts_of why at)
 
 -- A direction of the buffers that has not changed stands for what it stood for.
 pub same_tx : (old new : Rings) (n : ℕ) (s : Sending) → SameTx old new → TxHolds old n s → TxHolds new n s
