@@ -1,12 +1,12 @@
 mod Reading
-mod Eight
-mod Stepping
-mod Assembly
-mod Buffers
-mod Outcomes
+pub mod Eight
+pub mod Stepping
+pub mod Assembly
+pub mod Buffers
+pub mod Outcomes
 mod Settling
 mod Commands
-mod Closed
+pub mod Closed
 mod Resetting
 mod Sizing
 mod Passing

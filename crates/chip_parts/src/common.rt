@@ -1,5 +1,5 @@
 //! Writes to the common register block: plain ones, the software reset, and PPPoE, which stops.
-ghost use Rattle.std.specs.Prelude.{◌≡◌, ◌<◌, ◌∷◌, slice_index_or, replicate, length, ℕ, IfErr, OnOk, Some, None};
+ghost use Rattle.std.specs.Prelude.{◌≡◌, ◌<◌, ◌∷◌, slice_index_or, replicate, ℕ, IfErr, OnOk, Some, None};
 ghost use Rattle.board_bus.specs.declared.event.BusEvent.{BusEvent};
 ghost use Rattle.board_bus.specs.declared.event.BusAnswer.{BusAnswer};
 ghost use Rattle.chip_sheet.specs.declared.event.Entry.TheVariants.{Bus};
