@@ -9,7 +9,7 @@ mod Steps
 mod Sums
 mod Filled
 mod Idle
-mod Rooms
+pub mod Rooms
 mod Keeping
 mod Founds
 pub mod Lending

@@ -1,0 +1,6 @@
+mod Assembly
+mod Registers
+mod Raising
+mod Directions
+mod Fitting
+mod Offers

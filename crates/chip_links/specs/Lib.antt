@@ -1,0 +1,4 @@
+pub mod Fitting
+pub mod Lent
+pub mod Coming
+pub mod Noting
