@@ -6,3 +6,10 @@ mod Buffers
 mod Outcomes
 mod Settling
 mod Commands
+mod Closed
+mod Resetting
+mod Sizing
+mod Passing
+mod Taking
+mod SendCommands
+mod RecvCommands
