@@ -60,7 +60,7 @@ impl Parts {
     /// The stop of the write exactly where it has one; nothing has then changed.
     pub fn write(&mut self, bits: u8, addr: u16, v: u8) -> Result<u32, ChipStop>
         requires bits { bits < 32 }
-        requires few { (n : ℕ) (other : Life) → (life_of (slice_index_or self.old.lives n other)).lives < 2 ^ 60 }
+        requires few { (n : ℕ) (other : Life) → n < 8 → (life_of (slice_index_or self.old.lives n other)).lives < 2 ^ 60 }
         requires windows { ClosedIsEmpty self.old }
         ensures ok { IfOk result (λ k. (starts : Starts) (past : Past) (e : BusEvent) (a : BusAnswer) → Legal starts past → Holds starts self.old past → access past e ≡ Write bits addr v
             → AfterWrite starts past e a bits k self.new) }

@@ -1,8 +1,13 @@
-use Rattle.std.proofs.Common.{ℕ, ◌/◌, cond, eqb, sym, ap, ◌∙◌}
+use Rattle.std.proofs.Common.{ℕ, ◌/◌, ◌<◌, cond, eqb, sym, ap, ◌∙◌, arith}
 use Rattle.chip_sheet.specs.Blocks.{registers_of}
 use Rattle.chip_parts.proofs.Outcomes.{if_ok, if_err}
 use Rattle.chip_parts.proofs.Passing.{own_passed, nothing_passed, is_the_command, is_no_command}
 use Rattle.chip_parts.proofs.parts.Parts.write.Goals as goal
+
+pub write_command-requires-clause-few : goal.write_command-requires-clause-few
+write_command-requires-clause-few c =
+    let below : c.args.bits / 4 < 8 = omega (arith, c.requires.bits) in
+    λ other. c.requires.few (c.args.bits / 4) other below
 
 pub returns-then-is_command-clause-ok : goal.returns-then-is_command-clause-ok
 returns-then-is_command-clause-ok c =

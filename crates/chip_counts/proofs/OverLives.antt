@@ -1,6 +1,6 @@
 -- Counts over all lives of a socket grow by no more than one entry can add.
-use Rattle.std.proofs.Common.{◌≡◌, ◌≤◌, ◌<◌, ◌↔◌, ℕ, ◌+◌, ◌-◌, ◌*◌, min, zero, suc, Bool, true, false, ◌&&◌, ◌||◌, cond, eqb, leb, List, [], ◌∷◌, ◌++◌, map, length, length-append, Option, None, Some, inl, inr, refl, sym, ap, ◌∙◌, subst, arith, ◌⊎◌}
-use Rattle.std.proofs.lemmas.Bool.{cases_Bool, cases_lt, and_parts, or_cases, leb-true, eqb-true, eqb-false, eq-eqb, cond-true, cond-false, cond_both, agree_below_at}
+use Rattle.std.proofs.Common.{◌≡◌, ◌≤◌, ◌<◌, ◌↔◌, ℕ, ◌+◌, ◌*◌, min, zero, suc, Bool, true, false, ◌&&◌, ◌||◌, cond, eqb, leb, List, [], ◌∷◌, ◌++◌, map, length, length-append, inl, inr, refl, sym, ap, ◌∙◌, subst, arith, ◌⊎◌}
+use Rattle.std.proofs.lemmas.Bool.{cases_Bool, and_parts, or_cases, leb-true, eqb-true, eqb-false, eq-eqb, cond-true, cond-false, cond_both, agree_below_at}
 use Rattle.chip_sheet.specs.declared.event.Addr.{Addr}
 use Rattle.chip_sheet.specs.declared.event.Entry.{Entry}
 use Rattle.chip_sheet.specs.declared.event.Entry.TheVariants.{Bus, Link, Rest}
@@ -18,17 +18,17 @@ use Rattle.chip_sheet.specs.Frames.{access}
 use Rattle.chip_sheet.specs.Blocks.{sockets}
 use Rattle.chip_sheet.specs.Positions.{has_between}
 use Rattle.chip_sheet.specs.Sending.{bytes_from}
-use Rattle.chip_sheet.specs.Life.{Life, life, life_after, lives_on, new_life, next, facts_of, begins, cause, happening, status, lives}
-use Rattle.chip_sheet.specs.Sizes.{is_size, all_sizes, total, are_valid, size, tx_sizes, tx_size, kilobytes}
+use Rattle.chip_sheet.specs.Life.{Life, life, lives_on, new_life, next, facts_of, begins, cause, happening, status, lives}
+use Rattle.chip_sheet.specs.Sizes.{is_size, all_sizes, total, are_valid, size, tx_sizes, kilobytes}
 use Rattle.chip_sheet.specs.Streams.{Starts, sent, sent_by, ends, sends, takes_send, range, range_length, tx_byte, taken, bytes_of, is_of, header, put_by, free_behind, got}
-use Rattle.chip_sheet.specs.Windows.{flight, rx_free, tx_free, most_read}
+use Rattle.chip_sheet.specs.Windows.{flight, rx_free, most_read}
 use Rattle.chip_sheet.specs.Interrupts.{raised_by, raised_by_life, raised_by_bytes}
 use Rattle.chip_sheet.specs.LinkCalls.{outgoing, incoming, answers_call, fits}
 use Rattle.chip_sheet.specs.Connections.{over_lives, sent_in_all, taken_in_all, got_in_all}
 use Rattle.chip_sheet.specs.Legal.{Legal}
 use Rattle.chip_sheet.proofs.SentLaws.{sent_other}
 use Rattle.chip_sheet.proofs.LifeSteps.{got_other}
-use Rattle.chip_sheet.proofs.Within.{send_within, taken_within, both_same}
+use Rattle.chip_sheet.proofs.Within.{send_within, taken_within}
 use Rattle.chip_sheet.proofs.FitLaws.{begun_sent, begun_got}
 
 -- A buffer has at most 16 KB.
@@ -76,7 +76,7 @@ size_within past sizes n below =
     ]
 
 -- A sum over lives, of which one grows.
-over_same : (f g : ℕ → ℕ) (k : ℕ) → ((l : ℕ) → l ≤ k → f l ≡ g l) → over_lives f k ≡ over_lives g k
+pub over_same : (f g : ℕ → ℕ) (k : ℕ) → ((l : ℕ) → l ≤ k → f l ≡ g l) → over_lives f k ≡ over_lives g k
 over_same f g zero h = refl
 over_same f g (suc k) h =
     let one = h (suc k) (omega arith) in
@@ -103,7 +103,7 @@ over_less f g zero h = omega arith
 over_less f g (suc k) h = let one = h (suc k) in let rest = over_less f g k h in omega (arith, one, rest)
 
 -- The number of lives after an entry: the same, or one more, whose lists are empty.
-lives_cases : (past : Past) (entry : Entry) (n : ℕ) → (lives (entry ∷ past) n ≡ lives past n) ⊎ (lives (entry ∷ past) n ≡ lives past n + 1)
+pub lives_cases : (past : Past) (entry : Entry) (n : ℕ) → (lives (entry ∷ past) n ≡ lives past n) ⊎ (lives (entry ∷ past) n ≡ lives past n + 1)
 lives_cases past entry n =
     let at = life past n in
     let why = cause past n entry in
@@ -119,7 +119,7 @@ over_now f g now was more (inr begun) none h =
     one_more k = omega arith
 
 -- What was sent.
-range_long : (f : ℕ → ℕ) (at count : ℕ) → length (bytes_from f at count) ≡ count
+pub range_long : (f : ℕ → ℕ) (at count : ℕ) → length (bytes_from f at count) ≡ count
 range_long f at zero = refl
 range_long f at (suc count) = ap suc (range_long f (at + 1) count)
 
@@ -134,7 +134,7 @@ sent_grows starts past n because.Send before few = by (takes_send past n (lives 
     by false few = omega arith
 sent_grows starts past n why before few = omega arith
 
-no_send : (b : Bool) (what : LinkEntry) → cond b (happening what) because.Nothing ≡ because.Send → ⊥
+pub no_send : (b : Bool) (what : LinkEntry) → cond b (happening what) because.Nothing ≡ because.Send → ⊥
 no_send true Linked h = cc
 no_send true what h = cc
 no_send false what h = cc
