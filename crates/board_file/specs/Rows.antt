@@ -24,33 +24,33 @@ abbrev pub port : Key → ℕ → Members → Result ℕ BoardFault
 port key = says key (required (number 1 65535))
 
 -- The file itself.
-abbrev pub tx_start : ℕ → Members → Result ℕ BoardFault
-tx_start = number_or TxStart 0 0 65535
+abbrev pub tx_start_row : ℕ → Members → Result ℕ BoardFault
+tx_start_row = number_or TxStart 0 0 65535
 
-abbrev pub rx_start : ℕ → Members → Result ℕ BoardFault
-rx_start = number_or RxStart 0 0 65535
+abbrev pub rx_start_row : ℕ → Members → Result ℕ BoardFault
+rx_start_row = number_or RxStart 0 0 65535
 
-abbrev pub events : ℕ → Members → Result ℕ BoardFault
-events = number_or Events 33554432 1 67108864
+abbrev pub events_row : ℕ → Members → Result ℕ BoardFault
+events_row = number_or Events 33554432 1 67108864
 
-abbrev pub cycles : ℕ → Members → Result ℕ BoardFault
-cycles = number_or Cycles 1099511627776 1 1099511627776
+abbrev pub cycles_row : ℕ → Members → Result ℕ BoardFault
+cycles_row = number_or Cycles 1099511627776 1 1099511627776
 
 -- An entry of `listen` or `route`, or a peer.
-abbrev pub chip : ℕ → Members → Result ℕ BoardFault
-chip = port Chip
+abbrev pub chip_row : ℕ → Members → Result ℕ BoardFault
+chip_row = port Chip
 
-abbrev pub listen_host : ℕ → Members → Result ℕ BoardFault
-listen_host = port Host
+abbrev pub listen_host_row : ℕ → Members → Result ℕ BoardFault
+listen_host_row = port Host
 
-abbrev pub addr : ℕ → Members → Result (List ℕ) BoardFault
-addr = says Addr (required (text address))
+abbrev pub addr_row : ℕ → Members → Result (List ℕ) BoardFault
+addr_row = says Addr (required (text address))
 
-abbrev pub addr_port : ℕ → Members → Result ℕ BoardFault
-addr_port = port Port
+abbrev pub addr_port_row : ℕ → Members → Result ℕ BoardFault
+addr_port_row = port Port
 
-abbrev pub route_host : ℕ → Members → Result (List ℕ) BoardFault
-route_host = says Host (optional (127 ∷ 0 ∷ 0 ∷ 1 ∷ []) (text address))
+abbrev pub route_host_row : ℕ → Members → Result (List ℕ) BoardFault
+route_host_row = says Host (optional (127 ∷ 0 ∷ 0 ∷ 1 ∷ []) (text address))
 
-abbrev pub host_port : ℕ → Members → Result ℕ BoardFault
-host_port = port HostPort
+abbrev pub host_port_row : ℕ → Members → Result ℕ BoardFault
+host_port_row = port HostPort

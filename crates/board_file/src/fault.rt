@@ -140,6 +140,13 @@ pub enum BoardError {
     NoMemory,
 }
 
+/// A fault as an error.
+pub fn fault(key: Key, entry: u32, kind: KeyKind) -> BoardError
+    ensures { result ≡ Fault (record { key = key; entry = entry; kind = kind }) }
+{
+    BoardError::Fault(BoardFault { key, entry, kind })
+}
+
 impl From<BoardFault> for BoardError {
     ghost from_gives = { λ fault e. e ≡ Fault fault };
 

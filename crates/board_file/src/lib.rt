@@ -3,6 +3,8 @@
 
 pub mod fault;
 mod lookup;
+mod rows;
+mod tables;
 mod values;
 
 pub use fault::{BoardError, BoardFault, Key, KeyKind};
