@@ -1,6 +1,6 @@
 -- Board files: TOML texts that say how a board is set up, and the first fault of one that says it wrongly. A table's keys are judged
 -- in their written order, and last come keys that it does not have.
-use Rattle.std.specs.Prelude.{ℕ, List, [], ◌∷◌, Option, None, Some, Result, Ok, Err, if◌then◌else◌}
+use Rattle.std.specs.Prelude.{ℕ, ◌≤◌, List, [], ◌∷◌, length, None, ok_or, Result, Ok, if◌then◌else◌}
 use Rattle.std.specs.Str.{is_utf8}
 use Rattle.toml.specs.Data.{Members}
 use Rattle.toml.specs.Parse.{parse_document}
@@ -67,18 +67,29 @@ board file = do
   peers ← entries Peer peer file
   known ← only_known file_keys 0 file
   Ok (record {
-    tx_start = tx; rx_start = rx; events = events; cycles = cycles; routes = record { listens = listens; routes = routes };
-    peers = peers })
+    tx_start = tx;
+    rx_start = rx;
+    events = events;
+    cycles = cycles;
+    routes = record { listens = listens; routes = routes };
+    peers = peers;
+  })
 
 -- The table that a text is as TOML, which is UTF-8.
-abbrev pub document : List ℕ → Option Members
-document text = if is_utf8 text then parse_document text else None
-
--- The board of a text that is TOML.
-abbrev pub of_document : Option Members → Result Setup BoardFault
-of_document None = Err (record { key = File; entry = 0; kind = BadToml })
-of_document (Some file) = board file
+abbrev pub document : List ℕ → Result Members BoardFault
+document text =
+    ok_or (if is_utf8 text then parse_document text else None) (record { key = File; entry = 0; kind = BadToml })
 
 -- The board that a text says, or its first fault.
 abbrev pub board_of : List ℕ → Result Setup BoardFault
-board_of text = of_document (document text)
+board_of text = do
+  file ← document text
+  board file
+
+-- The limits of a run that a board keeps.
+pub record IsWithinLimits (setup : Setup) : Type 0 where
+  pub some_events : 1 ≤ setup.events
+  pub few_events : setup.events ≤ 67108864
+  pub some_cycles : 1 ≤ setup.cycles
+  pub few_cycles : setup.cycles ≤ 1099511627776
+  pub few_peers : length setup.peers ≤ 64

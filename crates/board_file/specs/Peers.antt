@@ -1,5 +1,5 @@
 -- An entry of `peer`: its rows, and the script that it says.
-use Rattle.std.specs.Prelude.{ℕ, List, [], ◌∷◌, length, replicate, codes, Option, None, Some, Result, Ok, Err, if◌then◌else◌}
+use Rattle.std.specs.Prelude.{ℕ, List, [], ◌∷◌, map, zip, length, replicate, codes, Option, None, Some, Result, Ok, if◌then◌else◌}
 use Rattle.std.specs.Str.{bytes_eq}
 use Rattle.toml.specs.Data.{Data, Members}
 use Rattle.link_script.specs.declared.peer.PeerKind.{PeerKind}
@@ -79,9 +79,7 @@ peer_keys Udp =
 
 -- Chunks, each with its number of `after`.
 abbrev pub said : List ℕ → List (List ℕ) → List Said
-said [] chunks = []
-said (after ∷ afters) [] = []
-said (after ∷ afters) (bytes ∷ chunks) = record { after = after; bytes = bytes } ∷ said afters chunks
+said afters chunks = map (λ p. record { after = p.0; bytes = p.1 }) (zip afters chunks)
 
 -- The bytes that a peer says, each with the count after which it says them.
 abbrev pub sayings : ℕ → Members → Result (List Said) BoardFault
@@ -105,5 +103,13 @@ peer entry table = do
   fail ← fail_row entry table
   known ← only_known (peer_keys kind) entry table
   Ok (record {
-    kind = kind; addr = record { ip = ip; port = port }; chip = chip; connect = connect; takes = takes; room = room; say = say;
-    end = end; fail = fail })
+    kind = kind;
+    addr = record { ip = ip; port = port };
+    chip = chip;
+    connect = connect;
+    takes = takes;
+    room = room;
+    say = say;
+    end = end;
+    fail = fail;
+  })

@@ -34,7 +34,8 @@ pub struct NumberRow {
 pub fn number_or(table: &Table, row: NumberRow, entry: u32) -> Result<u64, BoardFault>
     requires { row.default ≤ row.most }
     ensures is { result ≡ number_or row.key row.default row.least row.most entry (table_view table.now) }
-    ensures fits { IfOk result (λ n. n ≤ row.most) }
+    ensures most { IfOk result (λ n. n ≤ row.most) }
+    ensures least { IfOk result (λ n. row.least ≤ row.default → row.least ≤ n) }
 {
     let judged = match value_at(table, row.key) {
         Some(value) => number(value, row.least, row.most),

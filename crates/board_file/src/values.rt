@@ -14,7 +14,7 @@ use toml::Value;
 // A number of this range.
 fn ranged(z: i64, least: u64, most: u64) -> Option<u64>
     ensures is { result ≡ ranged least most z }
-    ensures fits { IfSome result (λ n. n ≤ most) }
+    ensures fits { IfSome result (λ n. (least ≤ n) × (n ≤ most)) }
 {
     match u64::try_from(z) {
         Ok(n) if least <= n && n <= most => Some(n),
@@ -29,7 +29,7 @@ fn ranged(z: i64, least: u64, most: u64) -> Option<u64>
 /// `WrongType` where it is no whole number, `OutOfRange` where it is another.
 pub fn number(value: &Value, least: u64, most: u64) -> Result<u64, KeyKind>
     ensures is { result ≡ number least most (view value.now) }
-    ensures fits { IfOk result (λ n. n ≤ most) }
+    ensures fits { IfOk result (λ n. (least ≤ n) × (n ≤ most)) }
 {
     match value.as_integer() {
         Some(z) => match ranged(z, least, most) {
@@ -126,7 +126,11 @@ fn chunk(alloc: Global, text: &str, most: usize) -> Result<Option<Vec<u8>>, Allo
 /// # Errors
 ///
 /// Want of memory alone.
-pub fn all_chunks(alloc: Global, written: &[&str], most: usize) -> Result<Option<Vec<Vec<u8>>>, AllocError>
+pub fn all_chunks(
+    alloc: Global,
+    written: &[&str],
+    most: usize,
+) -> Result<Option<Vec<Vec<u8>>>, AllocError>
     ensures { IfOk result (λ v. option_map (λ v. bytes_of v.items) v ≡ each (chunk most) (texts written.now)) }
 {
     let mut chunks = Vec::new(alloc);
