@@ -71,7 +71,7 @@ fn run(alloc: Global, parts: &[(u16, &[u16])], limit: u64) -> Result<Seen, Alloc
         sum: 0,
     };
     for _ in 0..limit {
-        mcu.hurry(limit.min(1 << 62));
+        mcu.hurry(limit.min(1 << 62), u64::MAX);
         add(&mut seen, mcu.printed());
         if limit <= mcu.cycles() || 1 << 62 <= mcu.cycles() {
             break;

@@ -8,7 +8,7 @@ use Rattle.avr_mcu.specs.Hurry.{hurried, RunHurries, IsHurry, GoesFurther, Round
 use Rattle.avr_mcu.specs.Run.{Outcome, end_by, end_of, byte_of, at_limit, after, run}
 use Rattle.avr_mcu.specs.State.{McuState, printed, taken}
 use Rattle.avr_mcu.specs.Step.{Gone, gone, stepped}
-use Rattle.avr_mcu.specs.Stretch.{IsMove, GoesOn, Goes}
+use Rattle.avr_mcu.specs.Stretch.{IsMove, GoesOn}
 use Rattle.avr_mcu.specs.Turn.{IsTurn, IsRun}
 use Rattle.avr_mcu.specs.declared.run.RunEnd.{RunEnd}
 use Rattle.avr_mcu.specs.declared.run.RunEnd.TheVariants as ends
@@ -70,7 +70,7 @@ run-hurries limit more s t xs none goes =
     some-hurried limit more s t xs none (subst (λ k. GoesOn limit k s t) is goes)
 
 -- A call of `hurry` from below the limit.
-any-hurried : (limit k : ℕ) (s t : McuState) (xs : List BusAnswer) → printed s ≡ None → s.devices.cycles < limit → GoesOn limit k s t
+pub any-hurried : (limit k : ℕ) (s t : McuState) (xs : List BusAnswer) → printed s ≡ None → s.devices.cycles < limit → GoesOn limit k s t
     → run limit s xs ≡ hurried (at_limit limit t.devices.cycles) limit t xs
 any-hurried limit zero s t xs none below goes =
     subst (λ (m : McuState). run limit s xs ≡ hurried (at_limit limit m.devices.cycles) limit m xs) (sym goes) (sym (silent limit s xs none below))
@@ -103,7 +103,7 @@ round-goes limit s mid now p q serial bytes all end o fresh before turn hurry =
     let t : McuState = hurry.reached in
     let none : printed mid ≡ None = ap printed turn.leaves in
     let whole : o ≡ after q.asked bytes (hurried (at_limit limit t.devices.cycles) limit t q.left) =
-    on.rest ∙ ap (after q.asked bytes) (any-hurried limit hurry.goes.steps mid t q.left none on.below hurry.goes.goes) in
+    on.rest ∙ ap (after q.asked bytes) (any-hurried limit hurry.steps mid t q.left none on.below hurry.goes) in
     let rises : s.devices.cycles + 1 ≤ t.devices.cycles = omega (arith, on.rises, hurry.rises) in
     subst (λ b. Rounds end limit s now q b o) (sym hurry.prints)
     (subst (λ m. Rounds end limit s m q (bytes ++ byte_of (printed t)) o) (sym hurry.leaves)

@@ -29,7 +29,7 @@ use Rattle.avr_space.proofs.Quiet.{lapsed-memory, lapsed-cycles, lapsed-more, la
 use Rattle.avr_timer.specs.Laws.{IsHeld}
 use Rattle.avr_mcu.specs.State.{McuState, noted, printed}
 use Rattle.avr_mcu.specs.Step.{Gone, gone, passing, looking, counting, finished, instruction, owes, request, step_by, stepped}
-use Rattle.avr_mcu.specs.Stretch.{Course, begun, IsNext, RunsPlain, IsMove, GoesOn, Goes, noted_all}
+use Rattle.avr_mcu.specs.Stretch.{Course, begun, IsNext, RunsPlain, IsMove, GoesOn, noted_all}
 use Rattle.avr_mcu.specs.declared.went.McuWent.{McuWent}
 use Rattle.avr_mcu.specs.declared.went.McuWent.TheVariants.{Ran, Asleep}
 
@@ -256,24 +256,17 @@ rushed-is s k core memory addresses trail spent some least notes =
 pub rush-ends : (s : McuState) (limit most calm k : ℕ) (core : Core) (memory addresses trail : List ℕ) (spent : ℕ) → IsAhead s limit most calm → s.asleep ≡ false
     → s.counted + k ≤ 63 → 0 < k → k ≤ spent → trail ≡ noted_all s.trail addresses
     → RunsPlain s.flash most calm k (begun s.core s.devices.memory) (record { core = core; memory = memory; addresses = addresses; spent = spent })
-    → Goes limit s (record s { core = core; devices = passed spent (record s.devices { memory = memory }); trail = trail; counted = s.counted + k; owed = false })
+    → GoesOn limit k s (record s { core = core; devices = passed spent (record s.devices { memory = memory }); trail = trail; counted = s.counted + k; owed = false })
 rush-ends s limit most calm k core memory addresses trail spent ahead awake few some least notes runs =
     let now : Course = record { core = core; memory = memory; addresses = addresses; spent = spent } in
-    record {
-      steps = k;
-      goes = subst (λ t. GoesOn limit k s t) (rushed-is s k core memory addresses trail spent some least notes) (rush-goes s limit most calm k now ahead awake few runs);
-    }
-
-none-course : (flash : List ℕ) (most calm k : ℕ) (before now : Course) → k ≤ 0 → RunsPlain flash most calm k before now → now ≡ before
-none-course flash most calm zero before now none runs = runs
-none-course flash most calm (suc k) before now none runs = absurd (omega arith)
+    subst (λ t. GoesOn limit k s t) (rushed-is s k core memory addresses trail spent some least notes) (rush-goes s limit most calm k now ahead awake few runs)
 
 pub rush-none : (s : McuState) (limit most calm k : ℕ) (core : Core) (memory addresses : List ℕ) (spent : ℕ) → k ≤ 0
     → RunsPlain s.flash most calm k (begun s.core s.devices.memory) (record { core = core; memory = memory; addresses = addresses; spent = spent })
-    → Goes limit s (record s { core = core; devices = record s.devices { memory = memory } })
-rush-none s limit most calm k core memory addresses spent none runs =
-    let same = none-course s.flash most calm k (begun s.core s.devices.memory) (record { core = core; memory = memory; addresses = addresses; spent = spent }) none runs in
-    record { steps = 0; goes = ap (λ (c : Course). record s { core = c.core; devices = record s.devices { memory = c.memory } }) same }
+    → GoesOn limit k s (record s { core = core; devices = record s.devices { memory = memory } })
+rush-none s limit most calm zero core memory addresses spent none runs =
+    ap (λ (c : Course). record s { core = c.core; devices = record s.devices { memory = c.memory } }) runs
+rush-none s limit most calm (suc k) core memory addresses spent none runs = absurd (omega arith)
 
 -- Cycles asleep.
 dozed : McuState → ℕ → McuState
@@ -309,18 +302,12 @@ doze-goes s limit most (suc k) ahead asleep early few =
     (dozed s k, doze-goes s limit most k ahead asleep (omega (arith, early)) (omega (arith, few)), dozed-on s limit most k ahead asleep (omega (arith, early)) (omega (arith, few)))
 
 pub doze-ends : (s : McuState) (limit most k : ℕ) → IsAhead s limit most most → s.asleep ≡ true → k ≤ most → s.counted + k ≤ 63 → 0 < k
-    → Goes limit s (record s { devices = passed k s.devices; counted = s.counted + k })
+    → GoesOn limit k s (record s { devices = passed k s.devices; counted = s.counted + k })
 unfolding dozed
 doze-ends s limit most k ahead asleep early few some =
     let took : (k == 0) ≡ false = grind (arith, nat_tests) in
-    record {
-      steps = k;
-      goes = subst (λ d. GoesOn limit k s (record s { devices = d; counted = s.counted + k })) (cond-false (k == 0) s.devices (passed k s.devices) took)
-          (doze-goes s limit most k ahead asleep early few);
-    }
-
-pub goes-none : (limit : ℕ) (s : McuState) → Goes limit s s
-goes-none limit s = record { steps = 0; goes = refl }
+    subst (λ d. GoesOn limit k s (record s { devices = d; counted = s.counted + k })) (cond-false (k == 0) s.devices (passed k s.devices) took)
+    (doze-goes s limit most k ahead asleep early few)
 
 -- What is ahead, as it was computed.
 pub ahead-of : (s : McuState) (limit printed_at quiet_until most calm : ℕ) → IsHeld s.devices.timers → PrintsNoneUntil s.devices printed_at → IsQuietUntil s.devices quiet_until

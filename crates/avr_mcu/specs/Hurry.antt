@@ -3,7 +3,7 @@ use Rattle.std.specs.Prelude.{◌≡◌, ℕ, ◌+◌, ◌≤◌, ◌<◌, List,
 use Rattle.avr_mcu.specs.Answers.{Listed}
 use Rattle.avr_mcu.specs.Run.{Outcome, after, at_limit, byte_of, run}
 use Rattle.avr_mcu.specs.State.{McuState, printed, taken}
-use Rattle.avr_mcu.specs.Stretch.{Goes, GoesOn}
+use Rattle.avr_mcu.specs.Stretch.{GoesOn}
 use Rattle.avr_mcu.specs.Turn.{IsRun}
 use Rattle.avr_mcu.specs.declared.run.RunEnd.{RunEnd}
 use Rattle.board_bus.specs.declared.event.BusAnswer.{BusAnswer}
@@ -21,8 +21,9 @@ RunHurries = (limit more : ℕ) (s t : McuState) (xs : List BusAnswer) → print
 
 -- A call of `hurry` in a run: the end where the limit is reached, the microcontroller with the printed byte taken, and the bytes.
 pub record IsHurry (limit : ℕ) (s : McuState) (serial : List ℕ) (end : Option RunEnd) (now : McuState) (bytes : List ℕ) : Type 0 where
+  pub steps : ℕ
   pub reached : McuState
-  pub goes : Goes limit s reached
+  pub goes : GoesOn limit steps s reached
   pub rises : s.devices.cycles ≤ reached.devices.cycles
   pub ends : end ≡ at_limit limit reached.devices.cycles
   pub leaves : now ≡ taken reached

@@ -56,8 +56,3 @@ pub record IsMove (limit : ℕ) (byte : Option ℕ) (s t : McuState) : Type 0 wh
 abbrev pub GoesOn : ℕ → ℕ → McuState → McuState → Type 0
 GoesOn limit zero s t = t ≡ s
 GoesOn limit (suc k) s t = (mid : McuState) × GoesOn limit k s mid × IsMove limit (printed s) mid t
-
--- Some such steps, or none.
-pub record Goes (limit : ℕ) (s t : McuState) : Type 0 where
-  pub steps : ℕ
-  pub goes : GoesOn limit steps s t

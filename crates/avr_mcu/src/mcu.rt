@@ -2,7 +2,7 @@
 ghost use Rattle.std.specs.Prelude.{◌≡◌, ◌+◌, ◌<◌, ◌≤◌, ◌^◌, true, false, IfOk, slice_get};
 ghost use Rattle.avr_core.specs.Ask.{Plays};
 ghost use Rattle.avr_mcu.specs.Settled.{IsKept, IsTimed};
-ghost use Rattle.avr_mcu.specs.Stretch.{Goes};
+ghost use Rattle.avr_mcu.specs.Stretch.{GoesOn};
 ghost use Rattle.avr_space.specs.Quiet.{IsQuietUntil};
 ghost use Rattle.avr_mcu.specs.Step.{counting, entered, entry, finished, gone, instruction, looking, owes, passing, request, sleeping, stepped};
 
@@ -97,23 +97,29 @@ impl Mcu {
         }
     }
 
-    /// Makes steps that ask nothing of the bus, while they begin below `limit`, a count of cycles: none, or some up to the next look at
-    /// INTn, the next event of a device, or the next instruction that reaches more than the core and SRAM, which are left to `step`.
+    /// Makes steps that ask nothing of the bus, while they begin below `limit`, a count of cycles, and gives how many: none, or some up to
+    /// `most`, the next look at INTn, the next event of a device, or the next instruction that reaches more than the core and SRAM, which
+    /// are left to `step`. They are at most 63.
     ///
     /// Each is what `step` would have done: it ran an instruction or slept a cycle. Of them only the last may have printed a byte, which
     /// `printed` then gives; `printed` is to be asked before, too. Where there were some, at most three cycles went by past `limit`.
-    pub fn hurry(&mut self, limit: u64)
+    pub fn hurry(&mut self, limit: u64, most: u64) -> u64
         requires { limit ≤ 2 ^ 63 }
-        ensures goes { Goes limit self.old self.new }
-        ensures from { self.old.devices.cycles ≤ self.new.devices.cycles }
+        ensures goes { GoesOn limit result self.old self.new }
+        ensures most { result ≤ most }
+        ensures few { result ≤ 63 }
+        ensures from { self.old.devices.cycles + result ≤ self.new.devices.cycles }
         ensures to { self.old.devices.cycles < limit → self.new.devices.cycles ≤ limit + 3 }
     {
         if self.devices.cycles < limit {
+            let room = least_of(LOOK_PERIOD - 1 - self.counted, most);
             if self.asleep {
-                self.doze(limit);
+                u64::from(self.doze(limit, room))
             } else {
-                self.rush(limit);
+                u64::from(self.rush(limit, room))
             }
+        } else {
+            0
         }
     }
 
@@ -128,13 +134,15 @@ impl Mcu {
         }
     }
 
-    /// Plain instructions, up to the next look, the limit or the next event of a device. The devices pass their time once, at the end.
-    fn rush(&mut self, limit: u64)
+    /// Plain instructions, at most `room`, up to the limit or the next event of a device. The devices pass their time once, at the end.
+    fn rush(&mut self, limit: u64, room: u8) -> u8
         requires limit { limit ≤ 2 ^ 63 }
         requires below { self.old.devices.cycles < limit }
         requires awake { self.old.asleep ≡ false }
-        ensures goes { Goes limit self.old self.new }
-        ensures from { self.old.devices.cycles ≤ self.new.devices.cycles }
+        requires room { self.old.counted + room ≤ 63 }
+        ensures goes { GoesOn limit result self.old self.new }
+        ensures few { result ≤ room }
+        ensures from { self.old.devices.cycles + result ≤ self.new.devices.cycles }
         ensures to { self.new.devices.cycles ≤ limit + 3 }
     {
         self.devices.fits();
@@ -146,7 +154,7 @@ impl Mcu {
             &self.code,
             &mut self.core,
             &mut self.devices.memory,
-            LOOK_PERIOD - 1 - self.counted,
+            room,
             most,
             calm,
             &mut addresses,
@@ -157,28 +165,29 @@ impl Mcu {
             self.counted += ran;
             self.devices.pass(spent);
         }
+        ran
     }
 
-    /// Cycles asleep, up to the next look, the limit or the next event of a device.
-    fn doze(&mut self, limit: u64)
+    /// Cycles asleep, at most `room`, up to the limit or the next event of a device.
+    fn doze(&mut self, limit: u64, room: u8) -> u8
         requires limit { limit ≤ 2 ^ 63 }
         requires below { self.old.devices.cycles < limit }
         requires asleep { self.old.asleep ≡ true }
-        ensures goes { Goes limit self.old self.new }
-        ensures from { self.old.devices.cycles ≤ self.new.devices.cycles }
+        requires room { self.old.counted + room ≤ 63 }
+        ensures goes { GoesOn limit result self.old self.new }
+        ensures few { result ≤ room }
+        ensures from { self.old.devices.cycles + result ≤ self.new.devices.cycles }
         ensures to { self.new.devices.cycles ≤ limit + 3 }
     {
         self.devices.fits();
         let now = self.devices.cycles;
         let until = self.calm_until().min(self.devices.printed_at());
-        let slept = least_of(
-            LOOK_PERIOD - 1 - self.counted,
-            cycles_ahead(now, limit, until),
-        );
+        let slept = least_of(room, cycles_ahead(now, limit, until));
         if slept > 0 {
             self.counted += slept;
             self.devices.pass(u64::from(slept));
         }
+        slept
     }
 
     /// The interrupt that is entered now: with I set and no instruction owed, the pending one.

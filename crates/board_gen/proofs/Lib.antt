@@ -1,4 +1,4 @@
-mod Each
+pub mod Each
 mod Faults
 mod Front
 mod Lines

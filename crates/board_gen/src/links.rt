@@ -34,8 +34,12 @@ fn bare(word: &[u8]) -> Option<LinkToken>
     }
 }
 
-// The bytes of hexadecimal digits, an even number of them or none.
-fn bytes(alloc: Global, text: &[u8]) -> Result<Option<Vec<u8>>, AllocError>
+/// The bytes of hexadecimal digits, an even number of them or none.
+///
+/// # Errors
+///
+/// Want of memory alone.
+pub fn bytes(alloc: Global, text: &[u8]) -> Result<Option<Vec<u8>>, AllocError>
     ensures { IfOk result (λ v. option_map (λ b. b.items) v ≡ bytes text.now) }
 {
     match hex::decode(alloc, text) {

@@ -2,7 +2,6 @@ pub mod Front
 mod IdleAnswer
 mod LegalPlaces
 mod ToldLaws
-pub mod OverLives
 pub mod SentStands
 pub mod MadeKept
 pub mod Destination

@@ -6,7 +6,6 @@
 
 pub mod addressed;
 pub mod answers;
-pub mod counts;
 pub mod kept;
 pub mod legal;
 pub mod stands;

@@ -8,10 +8,13 @@ use Rattle.chip_sheet.specs.declared.event.Entry.{Entry}
 use Rattle.chip_sheet.specs.declared.event.Entry.TheVariants.{Bus}
 use Rattle.chip_sheet.specs.declared.phase.Access.{Access}
 use Rattle.chip_sheet.specs.declared.phase.Access.TheVariants.{Write}
+use Rattle.chip_sheet.specs.declared.socket.Cause.TheVariants as because
 use Rattle.chip_sheet.specs.declared.stop.ChipStop.TheVariants.{OverwriteInFlight}
 use Rattle.chip_sheet.specs.Past.{Past}
 use Rattle.chip_sheet.specs.Frames.{access, access_of}
-use Rattle.chip_sheet.specs.Blocks.{sockets, tx_buffer_of}
+use Rattle.chip_sheet.specs.Blocks.{sockets, registers_of, tx_buffer_of}
+use Rattle.chip_sheet.specs.Life.{cause}
+use Rattle.chip_sheet.specs.Registers.{common_register}
 use Rattle.chip_sheet.specs.Sizes.{tx_sizes, rx_sizes, tx_size}
 use Rattle.chip_sheet.specs.Streams.{Starts}
 use Rattle.chip_sheet.specs.Sending as sending_of
@@ -39,52 +42,66 @@ use Rattle.sock_regs.proofs.BitBytes.{or_none}
 use Rattle.sock_cmd.proofs.SocketLives.{stays}
 use Rattle.ring_mem.specs.declared.rings.Rings.{Rings}
 use Rattle.ring_mem.specs.Buffers.{TxHolds, RxHolds, OthersSend, SameRx, tx_kilobytes}
+use Rattle.common_regs.specs.declared.registers.CommonRegs.{CommonRegs}
+use Rattle.common_regs.specs.Holding as common
 use Rattle.chip_parts.specs.declared.parts.Parts.{Parts}
 use Rattle.chip_parts.specs.Holding.{Holds, OthersUntouched}
 use Rattle.ring_mem.specs.declared.receives.Receives.{Receives}
 use Rattle.ring_mem.specs.RxHolds as rx_of
 use Rattle.chip_parts.proofs.Assembly.{one_steps}
 
+-- An entry that touches no socket, where these are the common registers after it.
+pub sockets_stay : (starts : Starts) (past : Past) (entry : Entry) (old : Parts) (now : CommonRegs) → Holds starts old past → common.Reads now (common_register (entry ∷ past))
+    → ((m : ℕ) → Untouched past entry m) → Holds starts (record old { common = now }) (entry ∷ past)
+sockets_stay starts past entry old now held reads others =
+    let on = no_reset past entry 0 (others 0).nothing in
+    record {
+      tx_start = held.tx_start;
+      rx_start = held.rx_start;
+      common = reads;
+      shows = record {
+        registers = λ n other below at here. held.shows.registers n other below at here ∙ sym (untouched_reads starts past entry n at (others n));
+        sir = held.shows.sir ∙ sym (sir_same starts past entry others);
+      };
+      lives = λ n other below. stays (get_or old.lives n other) past entry n (held.lives n other below) (others n).nothing;
+      tx = λ n below. subst (λ (s : Sending). TxHolds old.rings n s) (sym (leaves_all starts past entry n (others n)).sending) (held.tx n below);
+      rx = λ n below. subst (λ (g : Receiving). RxHolds old.rings n g) (sym (leaves_all starts past entry n (others n)).receiving) (held.rx n below);
+      tx_sizes = held.tx_sizes ∙ sym (sizes_same past entry tx_sizes on (others 0).tx_sizes);
+      rx_sizes = held.rx_sizes ∙ sym (sizes_same past entry rx_sizes on (others 0).rx_sizes);
+    }
+
 -- An entry that touches no socket and no common register.
 pub none_steps : (starts : Starts) (past : Past) (entry : Entry) (parts : Parts) → Holds starts parts past → writes_to (access_of past entry) 0 ≡ false → ((m : ℕ) → Untouched past entry m)
     → Holds starts parts (entry ∷ past)
 none_steps starts past entry parts held elsewhere others =
     let on = no_reset past entry 0 (others 0).nothing in
-    record {
-      tx_start = held.tx_start;
-      rx_start = held.rx_start;
-      common = λ at. held.common at ∙ sym (common_same past entry at on elsewhere);
-      shows = record {
-        registers = λ n other below at here. held.shows.registers n other below at here ∙ sym (untouched_reads starts past entry n at (others n));
-        sir = held.shows.sir ∙ sym (sir_same starts past entry others);
-      };
-      lives = λ n other below. stays (get_or parts.lives n other) past entry n (held.lives n other below) (others n).nothing;
-      tx = λ n below. subst (λ (s : Sending). TxHolds parts.rings n s) (sym (leaves_all starts past entry n (others n)).sending) (held.tx n below);
-      rx = λ n below. subst (λ (g : Receiving). RxHolds parts.rings n g) (sym (leaves_all starts past entry n (others n)).receiving) (held.rx n below);
-      tx_sizes = held.tx_sizes ∙ sym (sizes_same past entry tx_sizes on (others 0).tx_sizes);
-      rx_sizes = held.rx_sizes ∙ sym (sizes_same past entry rx_sizes on (others 0).rx_sizes);
-    }
+    sockets_stay starts past entry parts parts.common held (λ at. held.common at ∙ sym (common_same past entry at on elsewhere)) others
 
--- A byte of a TX buffer changes no register of its socket.
-no_bits : (shows : Shows) (x : ℕ) → with_bits shows 0 x ≡ x
+-- What is nothing for a socket and does not write to its registers changes none of those that the registers answer.
+pub no_bits : (shows : Shows) (x : ℕ) → with_bits shows 0 x ≡ x
 no_bits Raised x = or_none x
 no_bits shows x = refl
 
+pub unwritten_reads : (starts : Starts) (past : Past) (e : BusEvent) (a : BusAnswer) (n at : ℕ) → cause past n (Bus e a) ≡ because.Nothing → writes_to (access past e) (registers_of n) ≡ false
+    → is_kept (socket_place at).shows ≡ true → socket_register starts (Bus e a ∷ past) n at ≡ socket_register starts past n at
+unwritten_reads starts past e a n at nothing registers here =
+    let f = socket_register starts past n in
+    sym (history.others starts past (Bus e a) n at (no_reset past (Bus e a) n nothing) registers refl here)
+    ∙ ap (λ (bits : ℕ). after_raise bits f at) (leaves_life starts past (Bus e a) n nothing).bits
+    ∙ no_bits (socket_place at).shows (f at)
+
+-- So does a byte of its TX buffer.
 kept_reads : (starts : Starts) (past : Past) (e : BusEvent) (a : BusAnswer) (n addr v at : ℕ) → access past e ≡ Write (tx_buffer_of n) addr v → is_kept (socket_place at).shows ≡ true
     → socket_register starts (Bus e a ∷ past) n at ≡ socket_register starts past n at
 kept_reads starts past e a n addr v at is here =
-    let it = filling past (Bus e a) n addr v is in
-    let f = socket_register starts past n in
-    sym (history.others starts past (Bus e a) n at (no_reset past (Bus e a) n it.nothing) it.registers refl here)
-    ∙ ap (λ (bits : ℕ). after_raise bits f at) (leaves_life starts past (Bus e a) n it.nothing).bits
-    ∙ no_bits (socket_place at).shows (f at)
+    let it = filling past (Bus e a) n addr v is in unwritten_reads starts past e a n at it.nothing it.registers here
 
-asks_by : (starts : Starts) (past : Past) (entry : Entry) (n : ℕ) → interrupt_register starts (entry ∷ past) n ≡ interrupt_register starts past n → mask (entry ∷ past) n ≡ mask past n
+pub asks_by : (starts : Starts) (past : Past) (entry : Entry) (n : ℕ) → interrupt_register starts (entry ∷ past) n ≡ interrupt_register starts past n → mask (entry ∷ past) n ≡ mask past n
     → asks starts (entry ∷ past) n ≡ asks starts past n
 asks_by starts past entry n bits masks =
     asks_masked starts (entry ∷ past) n ∙ (λ i. not (eqb (bit_and (bits i) (masks i)) 0)) ∙ sym (asks_masked starts past n)
 
-place_kept : (is_kept (socket_place 0x02).shows ≡ true) × (is_kept (socket_place 0x2C).shows ≡ true)
+pub place_kept : (is_kept (socket_place 0x02).shows ≡ true) × (is_kept (socket_place 0x2C).shows ≡ true)
 unfolding socket_place
 place_kept = (refl, refl)
 

@@ -1,12 +1,10 @@
 -- The parts after a command that is no SEND and no RECV, and its stop.
 use Rattle.std.proofs.Common.{◌≡◌, ◌≢◌, ◌<◌, ℕ, Bool, true, false, ◌&&◌, cond, eqb, ltb, List, [], ◌∷◌, length, set, get_or, Option, None, Some, refl, sym, ap, ◌∙◌, subst}
-use Rattle.std.proofs.lemmas.Bool.{and_from, eq-eqb, ne_eqb}
+use Rattle.std.proofs.lemmas.Bool.{ne_eqb}
 use Rattle.std.proofs.lemmas.List.{get_or-set_same, get_or-set_other}
 use Rattle.board_bus.specs.declared.event.BusEvent.{BusEvent}
 use Rattle.board_bus.specs.declared.event.BusAnswer.{BusAnswer}
-use Rattle.chip_sheet.specs.declared.event.Addr.{Addr}
 use Rattle.chip_sheet.specs.declared.event.Entry.TheVariants.{Bus}
-use Rattle.chip_sheet.specs.declared.phase.Access.{Access}
 use Rattle.chip_sheet.specs.declared.phase.Access.TheVariants.{Write}
 use Rattle.chip_sheet.specs.declared.socket.Cause.{Cause}
 use Rattle.chip_sheet.specs.declared.socket.Cause.TheVariants as because
@@ -15,17 +13,13 @@ use Rattle.chip_sheet.specs.declared.stop.ChipStop.TheVariants.{SendBusy, SendTo
 use Rattle.chip_sheet.specs.Past.{Past}
 use Rattle.chip_sheet.specs.Frames.{access}
 use Rattle.chip_sheet.specs.Blocks.{registers_of}
-use Rattle.chip_sheet.specs.Life.{cause, cause_by, command, opening, protocol, protocol_of, status, is_udp}
-use Rattle.chip_sheet.specs.Peers.{destination, source_port}
+use Rattle.chip_sheet.specs.Life.{cause, command, opening, protocol, protocol_of, status, is_udp}
 use Rattle.chip_sheet.specs.Sending.{Sending}
 use Rattle.chip_sheet.specs.Receiving.{Receiving}
 use Rattle.chip_sheet.specs.Streams.{Starts, sends, is_open}
 use Rattle.chip_sheet.specs.Buffers.{sending, receiving}
 use Rattle.chip_sheet.specs.Stops.{stop, first, where_it, command_facts, send_busy, send_too_long, recv_past_end}
-use Rattle.chip_sheet.proofs.SendLaws.{command_cause}
-use Rattle.chip_steps.specs.Steps.{writes_command_alone, is_quiet}
-use Rattle.chip_steps.proofs.Writing.{alone}
-use Rattle.chip_steps.proofs.Elsewhere.{other_registers}
+use Rattle.chip_steps.specs.Steps.{is_quiet}
 use Rattle.chip_steps.proofs.StopSteps.{writes_command}
 use Rattle.sock_cmd.specs.declared.life.Life.{Life}
 use Rattle.sock_cmd.specs.declared.command.CmdAt.{CmdAt}
@@ -33,15 +27,14 @@ use Rattle.sock_cmd.specs.declared.command.Effect.{Effect}
 use Rattle.sock_cmd.specs.Effects.{cause_of, effect_of}
 use Rattle.sock_cmd.specs.LifeStops.{life_stop}
 use Rattle.sock_cmd.specs.Lives.{life_of, IsAfter, Happened}
-use Rattle.sock_cmd.proofs.SocketLives.{goes_on}
 use Rattle.sock_cmd.proofs.StopOrder.{in_order}
 use Rattle.ring_mem.specs.declared.rings.Rings.{Rings}
 use Rattle.ring_mem.specs.Buffers.{TxHolds, RxHolds, OthersSend, OthersReceive, tx_kilobytes, rx_kilobytes}
 use Rattle.chip_parts.specs.declared.parts.Parts.{Parts}
-use Rattle.chip_parts.specs.Holding.{Holds, Shows, Found, OthersUntouched}
+use Rattle.chip_parts.specs.Holding.{Holds, Shows, Found}
+use Rattle.chip_parts.specs.Passing.{passed}
 use Rattle.chip_parts.specs.Settling.{settled, got_settled}
-use Rattle.chip_parts.proofs.Stepping.{not_common}
-use Rattle.chip_parts.proofs.Assembly.{one_steps}
+use Rattle.chip_parts.proofs.Taking.{why_is, alone_is, life_goes, taken_steps}
 use Rattle.chip_parts.proofs.Settling.{sent_settled, received_settled}
 
 -- Any other byte asks for nothing, or for a command that is quiet.
@@ -63,14 +56,16 @@ quiet_byte p v send recv =
     (not_here (eqb v 0x20) because.Send _ (ne_eqb v 0x20 send)
     (not_here (eqb v 0x40) because.Receive because.Nothing (ne_eqb v 0x40 recv) refl))))))
 
-pub why_is : (past : Past) (e : BusEvent) (a : BusAnswer) (n v : ℕ) → access past e ≡ Write (registers_of n) 0x01 v → cause past n (Bus e a) ≡ command (protocol past n) v
-why_is past e a n v is = ap (cause_by past n) is ∙ command_cause past n v
-
 pub quiet_is : (past : Past) (e : BusEvent) (a : BusAnswer) (n v : ℕ) → access past e ≡ Write (registers_of n) 0x01 v → v ≢ 0x20 → v ≢ 0x40 → is_quiet (cause past n (Bus e a)) ≡ true
 quiet_is past e a n v is send recv = ap is_quiet (why_is past e a n v is) ∙ quiet_byte (protocol past n) v send recv
 
-pub alone_is : (past : Past) (e : BusEvent) (n v : ℕ) → access past e ≡ Write (registers_of n) 0x01 v → writes_command_alone (access past e) n ≡ true
-alone_is past e n v is = ap (λ (m : Access). writes_command_alone m n) is ∙ and_from (eqb (registers_of n) (registers_of n)) true (eq-eqb (registers_of n) (registers_of n) refl) refl
+-- It passes no bytes to SEND.
+passes_none : (starts : Starts) (past : Past) (n : ℕ) (why : Cause) → is_quiet why ≡ true → 0 ≡ passed starts past n why
+passes_none starts past n because.Send h = cc
+passes_none starts past n why h = refl
+
+pub quiet_passes : (starts : Starts) (past : Past) (e : BusEvent) (a : BusAnswer) (n v : ℕ) → access past e ≡ Write (registers_of n) 0x01 v → v ≢ 0x20 → v ≢ 0x40 → 0 ≡ passed starts past n (cause past n (Bus e a))
+quiet_passes starts past e a n v is send recv = passes_none starts past n (cause past n (Bus e a)) (quiet_is past e a n v is send recv)
 
 -- Its stop.
 only_first : (o : Option ChipStop) → first (o ∷ None ∷ None ∷ None ∷ []) ≡ o
@@ -93,10 +88,6 @@ stop_is starts past e n v at socket is send recv found life =
     ∙ only_first own
     ∙ sym (λ i. life_stop (found.sn i) (life.life i).status (found.mode i) (found.valid i) v)
 
-happened_so : (before after : Life) (why other : Cause) (to to' : Addr) (port port' : ℕ) → why ≡ other → to ≡ to' → port ≡ port' → Happened before why to port after → Happened before other to' port' after
-happened_so before after why other to to' port port' e f g h =
-    subst (λ (p : ℕ). Happened before other to' p after) g (subst (λ (t : Addr). Happened before other t port after) f (subst (λ (w : Cause). Happened before w to port after) e h))
-
 pub command_steps : (starts : Starts) (past : Past) (e : BusEvent) (a : BusAnswer) (sn v : ℕ) (old new : Parts) (at : CmdAt) (effect : Effect) (rings : Rings) (before after : Life)
     → sn < 8 → sn < length old.lives → Holds starts old past → access past e ≡ Write (registers_of sn) 0x01 v → v ≢ 0x20 → v ≢ 0x40 → Found past sn at
     → IsAfter before past sn → Happened before (cause_of v at) at.to at.port after → effect ≡ effect_of (life_of before).status (cause_of v at)
@@ -108,36 +99,25 @@ pub command_steps : (starts : Starts) (past : Past) (e : BusEvent) (a : BusAnswe
 command_steps starts past e a sn v old new at effect rings before after below within held is send recv found life happened came tx rx other_tx other_rx tx_same rx_same shows same =
     let entry = Bus e a in
     let by_itself = alone_is past e sn v is in
-    let only = alone past entry sn by_itself in
     let quiet = quiet_is past e a sn v is send recv in
     let why : cause_of v at ≡ cause past sn entry = ap (λ (m : ℕ). command (protocol_of m) v) found.mode ∙ sym (why_is past e a sn v is) in
     let effect_is : effect ≡ effect_of (status past sn) (cause past sn entry) = came ∙ (λ i. effect_of (life.life i).status (why i)) in
-    let others : OthersUntouched past entry sn = λ m away. other_registers past e a sn m 0x01 v away is only.tx only.rx in
     let lives : new.lives ≡ set old.lives sn after = ap (λ (p : Parts). p.lives) same in
-    let new_rings : new.rings ≡ rings = ap (λ (p : Parts). p.rings) same in
-    let now : IsAfter after (entry ∷ past) sn =
-    goes_on before after past entry sn life (happened_so before after (cause_of v at) (cause past sn entry) at.to (destination past sn) at.port (source_port past sn) why found.to found.port happened) in
+    let now : IsAfter after (entry ∷ past) sn = life_goes past e a sn v at before after is found life happened in
     let sent : sending starts (entry ∷ past) sn ≡ settled effect (sending starts past sn) =
     sent_settled starts past entry sn by_itself quiet ∙ sym (ap (λ (x : Effect). settled x (sending starts past sn)) effect_is) in
     let received : receiving starts (entry ∷ past) sn ≡ got_settled effect (receiving starts past sn) =
     received_settled starts past entry sn by_itself quiet ∙ sym (ap (λ (x : Effect). got_settled x (receiving starts past sn)) effect_is) in
-    one_steps starts past entry sn old new held
+    taken_steps starts past e a sn v old new rings held is
     (record {
-      on = only.reset;
-      elsewhere = not_common (access past e) sn 0x01 v is;
-      no_tx_size = only.tx;
-      no_rx_size = only.rx;
-      others = others;
-      tx_start = ap (λ (p : Parts). p.tx_start) same;
-      rx_start = ap (λ (p : Parts). p.rx_start) same;
-      common = ap (λ (p : Parts). p.common) same;
-      shows = shows;
       life = λ other. subst (λ (l : Life). IsAfter l (entry ∷ past) sn) (sym (ap (λ (ls : List Life). get_or ls sn other) lives ∙ get_or-set_same old.lives sn after other within)) now;
       other_lives = λ m other away. ap (λ (ls : List Life). get_or ls m other) lives ∙ get_or-set_other old.lives sn m after other away;
-      tx = subst (λ (r : Rings). TxHolds r sn (sending starts (entry ∷ past) sn)) (sym new_rings) (subst (λ (s : Sending). TxHolds rings sn s) (sym sent) (tx (sending starts past sn) (held.tx sn below)));
-      rx = subst (λ (r : Rings). RxHolds r sn (receiving starts (entry ∷ past) sn)) (sym new_rings) (subst (λ (g : Receiving). RxHolds rings sn g) (sym received) (rx (receiving starts past sn) (held.rx sn below)));
-      other_tx = subst (λ (r : Rings). OthersSend old.rings r sn) (sym new_rings) other_tx;
-      other_rx = subst (λ (r : Rings). OthersReceive old.rings r sn) (sym new_rings) other_rx;
-      tx_sizes = ap tx_kilobytes new_rings ∙ tx_same;
-      rx_sizes = ap rx_kilobytes new_rings ∙ rx_same;
+      tx = subst (λ (s : Sending). TxHolds rings sn s) (sym sent) (tx (sending starts past sn) (held.tx sn below));
+      rx = subst (λ (g : Receiving). RxHolds rings sn g) (sym received) (rx (receiving starts past sn) (held.rx sn below));
+      other_tx = other_tx;
+      other_rx = other_rx;
+      tx_sizes = tx_same;
+      rx_sizes = rx_same;
+      shows = shows;
+      same = same ∙ ap (λ (ls : List Life). record old { lives = ls; rings = rings; registers = new.registers; sir = new.sir }) (sym lives);
     })

@@ -6,3 +6,10 @@ pub mod Buffers
 pub mod Outcomes
 mod Settling
 mod Commands
+pub mod Closed
+mod Resetting
+mod Sizing
+mod Passing
+mod Taking
+mod SendCommands
+mod RecvCommands

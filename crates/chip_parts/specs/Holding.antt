@@ -1,5 +1,5 @@
 -- The parts stand for what happened.
-use Rattle.std.specs.Prelude.{◌≡◌, ◌≢◌, ◌<◌, ◌&&◌, ℕ, map, slice_index_or}
+use Rattle.std.specs.Prelude.{◌≡◌, ◌≢◌, ◌<◌, ◌&&◌, ℕ, true, map, slice_index_or}
 use Rattle.chip_sheet.specs.declared.event.Entry.{Entry}
 use Rattle.chip_sheet.specs.Past.{Past}
 use Rattle.chip_sheet.specs.Quiet.{Untouched}
@@ -12,11 +12,11 @@ use Rattle.chip_sheet.specs.Interrupts.{sir_register}
 use Rattle.chip_sheet.specs.SocketBlock.{socket_register}
 use Rattle.common_regs.specs.Holding as common
 use Rattle.sock_regs.specs.Holding.{Reads}
-use Rattle.sock_cmd.specs.Lives.{IsAfter}
+use Rattle.sock_cmd.specs.Lives.{life_of, IsAfter}
 use Rattle.sock_cmd.specs.declared.command.CmdAt.{CmdAt}
-use Rattle.chip_sheet.specs.Life.{mode}
+use Rattle.chip_sheet.specs.Life.{mode, is_closed}
 use Rattle.chip_sheet.specs.Peers.{destination, source_port}
-use Rattle.ring_mem.specs.Buffers.{TxHolds, RxHolds, tx_kilobytes, rx_kilobytes}
+use Rattle.ring_mem.specs.Buffers.{TxHolds, RxHolds, flight_of, unread_of, tx_kilobytes, rx_kilobytes}
 use Rattle.sock_regs.specs.declared.registers.SockRegs.{SockRegs}
 use Rattle.sock_cmd.specs.declared.life.Life.{Life}
 use Rattle.chip_parts.specs.declared.parts.Parts.{Parts}
@@ -49,3 +49,8 @@ pub record Found (past : Past) (n : ℕ) (at : CmdAt) : Type 0 where
   pub port : at.port ≡ source_port past n
   pub to : at.to ≡ destination past n
   pub valid : at.sizes_valid ≡ (sizes.sizes_valid past sizes.tx_sizes && sizes.sizes_valid past sizes.rx_sizes)
+
+-- Nothing is in flight of a socket that is closed, and nothing is unread.
+abbrev pub ClosedIsEmpty : Parts → Type 0
+ClosedIsEmpty parts = (n : ℕ) (other : Life) → n < 8 → is_closed (life_of (slice_index_or parts.lives n other)).status ≡ true
+    → (flight_of parts.rings n ≡ 0) × (unread_of parts.rings n ≡ 0)

@@ -3,5 +3,10 @@
 //! [`parts::Parts`] takes accesses and link events, and answers what the datasheet says for them after all that happened so far.
 #![tactic(auto)]
 
+mod command_bytes;
+mod common;
 pub mod laws;
 pub mod parts;
+mod sending;
+mod sizes;
+mod writing;

@@ -32,7 +32,7 @@ use sock_regs::registers::SockRegs;
 use std::alloc::{AllocError, Global};
 
 /// Sn_CR.
-const COMMAND: u16 = 0x01;
+pub(crate) const COMMAND: u16 = 0x01;
 
 /// Sn_SR.
 const STATUS: u16 = 0x03;

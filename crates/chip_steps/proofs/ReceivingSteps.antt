@@ -158,7 +158,7 @@ resize starts past entry n h =
     })
 
 -- A RECV.
-receive_next : (at : Status) (facts : Facts) → next at because.Receive facts ≡ at
+pub receive_next : (at : Status) (facts : Facts) → next at because.Receive facts ≡ at
 receive_next Closed facts = refl
 receive_next Init facts = refl
 receive_next at facts = refl

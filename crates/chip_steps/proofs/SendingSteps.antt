@@ -196,7 +196,7 @@ send_next CloseWait facts h = refl
 send_next Udp facts h = refl
 send_next at facts h = cc
 
-sends_open : (at : Status) → sends at ≡ true → is_open at ≡ true
+pub sends_open : (at : Status) → sends at ≡ true → is_open at ≡ true
 sends_open Established h = refl
 sends_open CloseWait h = refl
 sends_open Udp h = refl

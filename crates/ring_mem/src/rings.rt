@@ -56,6 +56,13 @@ impl Rings {
         self.rx.set_sizes(rx);
     }
 
+    /// The sizes of the TX buffers and of the RX buffers in kilobytes, as they were set.
+    pub fn sizes(&self) -> ([u8; 8], [u8; 8])
+        ensures { (result.0 ≡ tx_kilobytes self.now) × (result.1 ≡ rx_kilobytes self.now) }
+    {
+        (self.tx.layout.kilobytes, self.rx.layout.kilobytes)
+    }
+
     /// Whether the eight sizes of each direction fit its memory.
     pub fn sizes_valid(&self) -> bool
         ensures { result ≡ (are_valid (tx_kilobytes self.now) && are_valid (rx_kilobytes self.now)) }

@@ -1,5 +1,5 @@
 -- The frame in progress, as the framer keeps it.
-use Rattle.std.specs.Prelude.{ℕ, ◌+◌, ◌-◌, ◌*◌, ◌/◌, ◌%◌, ◌==◌, List, [], ◌∷◌, length, if◌then◌else◌}
+use Rattle.std.specs.Prelude.{◌<◌, ℕ, ◌+◌, ◌-◌, ◌*◌, ◌/◌, ◌%◌, ◌==◌, List, [], ◌∷◌, length, if◌then◌else◌}
 use Rattle.chip_sheet.specs.declared.phase.Phase.{Phase}
 use Rattle.chip_sheet.specs.declared.phase.Phase.TheVariants as phases
 use Rattle.chip_sheet.specs.Past.{Past}
@@ -32,3 +32,8 @@ phase_at Start = phases.Address
 phase_at (High high) = phases.Address
 phase_at (Address addr) = phases.Control
 phase_at (Body control addr left) = phases.Body (control / 8) addr (control / 4 % 2 == 1)
+
+-- A data byte stands in one of 32 blocks.
+abbrev pub HasBlock : Phase → Type 0
+HasBlock (phases.Body block addr write) = block < 32
+HasBlock other = Unit {0}

@@ -6,7 +6,7 @@ ghost use Rattle.chip_sheet.specs.Past.{Past};
 ghost use Rattle.chip_sheet.specs.Frames.{phase, data_length, is_low};
 ghost use Rattle.board_bus.specs.declared.event.BusAnswer.{BusAnswer};
 ghost use Rattle.board_bus.specs.declared.event.BusEvent.TheVariants.{Select, Byte};
-ghost use Rattle.spi_frame.specs.Framer.{framer_of, frame_after, phase_at};
+ghost use Rattle.spi_frame.specs.Framer.{framer_of, frame_after, phase_at, HasBlock};
 
 use chip_sheet::phase::Phase;
 
@@ -84,7 +84,8 @@ fn frame_after(frame: Frame, byte: u8) -> Frame
 
 /// Where the next byte stands.
 fn phase_at(frame: Frame) -> Phase
-    ensures { result ≡ phase_at frame }
+    ensures phase { result ≡ phase_at frame }
+    ensures block { HasBlock result }
 {
     match frame {
         Frame::Start | Frame::High { .. } => Phase::Address,
@@ -128,6 +129,7 @@ impl Framer {
 
     /// Takes a byte from the host, and answers where it stood.
     pub fn byte(&mut self, byte: u8) -> Phase
+        ensures block { HasBlock result }
         ensures phase { (past : Past) → self.old ≡ framer_of past → result ≡ phase past }
         ensures after { (past : Past) (a : BusAnswer) → self.old ≡ framer_of past
             → self.new ≡ framer_of (Bus (Byte byte) a ∷ past) }

@@ -4,7 +4,7 @@ use Rattle.avr_space.specs.Quiet.{IsQuietUntil, PrintsNoneUntil}
 use Rattle.avr_space.specs.declared.devices.Devices.{Devices}
 use Rattle.avr_timer.specs.Laws.{IsHeld}
 use Rattle.avr_mcu.specs.State.{McuState}
-use Rattle.avr_mcu.specs.Stretch.{Goes}
+use Rattle.avr_mcu.specs.Stretch.{GoesOn}
 use Rattle.avr_mcu.proofs.Stretches.{IsAhead, ahead-of, doze-ends}
 use Rattle.avr_mcu.proofs.Timing.{passed-cycles}
 use Rattle.avr_mcu.proofs.mcu.Mcu.doze.Goals as goal
@@ -34,12 +34,13 @@ returns-then-slept-gt0-clause-goes c =
     let ahead : IsAhead s c.args.limit most most =
     ahead-of s c.args.limit c.printed_at.result c.calm_until.result most most held prints c.calm_until.ensures limit_is
     (λ some. let at = until_is some in omega (arith, at, least)) (λ some. let at = until_is some in omega (arith, at, least)) in
-    let room : k ≤ 64 - 1 - c.self.inside.counted = c.least_of-slept.ensures.room in
+    let room : k ≤ c.args.room = c.least_of-slept.ensures.room in
+    let left : s.counted + c.args.room ≤ 63 = c.requires.room in
     let some : 0 < k = c.if-slept-gt0.true in
-    let goes : Goes c.args.limit s (record s { devices = passed k s.devices; counted = s.counted + k }) =
-    doze-ends s c.args.limit most k ahead c.requires.asleep c.least_of-slept.ensures.cycles (omega (arith, room, count, some)) some in
-    subst (λ d. Goes c.args.limit s (record view { devices = d; counted = view.counted + k })) (sym (c.pass.ensures ∙ ap (λ n. passed n view.devices) c.from.ensures))
-    (subst (λ (m : McuState). Goes c.args.limit s (record m { devices = passed k m.devices; counted = m.counted + k })) (sym is) goes)
+    let goes : GoesOn c.args.limit k s (record s { devices = passed k s.devices; counted = s.counted + k }) =
+    doze-ends s c.args.limit most k ahead c.requires.asleep c.least_of-slept.ensures.cycles (omega (arith, room, left, some)) some in
+    subst (λ d. GoesOn c.args.limit k s (record view { devices = d; counted = view.counted + k })) (sym (c.pass.ensures ∙ ap (λ n. passed n view.devices) c.from.ensures))
+    (subst (λ (m : McuState). GoesOn c.args.limit k s (record m { devices = passed k m.devices; counted = m.counted + k })) (sym is) goes)
 
 pub returns-then-slept-gt0-clause-from : goal.returns-then-slept-gt0-clause-from
 returns-then-slept-gt0-clause-from c =

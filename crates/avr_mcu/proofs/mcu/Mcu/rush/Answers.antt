@@ -5,7 +5,7 @@ use Rattle.avr_space.specs.declared.devices.Devices.{Devices}
 use Rattle.avr_core.specs.declared.cpu.Core.{Core}
 use Rattle.avr_timer.specs.Laws.{IsHeld}
 use Rattle.avr_mcu.specs.State.{McuState}
-use Rattle.avr_mcu.specs.Stretch.{Goes, RunsPlain, begun, noted_all}
+use Rattle.avr_mcu.specs.Stretch.{GoesOn, RunsPlain, begun, noted_all}
 use Rattle.avr_mcu.proofs.Stretches.{IsAhead, ahead-of, rush-ends}
 use Rattle.avr_mcu.proofs.Timing.{passed-cycles}
 use Rattle.avr_mcu.proofs.mcu.Mcu.rush.Goals as goal
@@ -40,16 +40,17 @@ returns-then-ran-gt0-clause-goes c =
     (subst (λ n. n + most ≤ c.args.limit) clock c.cycles_ahead-most.ensures.limit)
     (λ some. subst (λ n. n + most ≤ c.printed_at.result) clock (c.cycles_ahead-most.ensures.until some))
     (λ some. subst (λ n. n + calm ≤ c.calm_until.result) clock (c.cycles_ahead-calm.ensures.until some)) in
-    let room : k ≤ 64 - 1 - c.self.inside.counted = c.stretch-ran.ensures.few in
+    let room : k ≤ c.args.room = c.stretch-ran.ensures.few in
+    let left : s.counted + c.args.room ≤ 63 = c.requires.room in
     let some : 0 < k = c.if-ran-gt0.true in
     let notes : trail ≡ noted_all s.trail addresses =
     c.note_all.ensures ∙ ap (λ (m : McuState). noted_all m.trail addresses) is in
     let runs : RunsPlain s.flash most calm k (begun s.core s.devices.memory) (record { core = core; memory = memory; addresses = addresses; spent = spent }) =
     subst (λ (m : McuState). RunsPlain m.flash most calm k (begun m.core m.devices.memory) (record { core = core; memory = memory; addresses = addresses; spent = spent })) is c.stretch-ran.ensures.runs in
-    let goes : Goes c.args.limit s (record s { core = core; devices = passed spent (record s.devices { memory = memory }); trail = trail; counted = s.counted + k; owed = false }) =
-    rush-ends s c.args.limit most calm k core memory addresses trail spent ahead c.requires.awake (omega (arith, room, count, some)) some c.stretch-ran.ensures.least notes runs in
-    subst (λ d. Goes c.args.limit s (record view { core = core; devices = d; trail = trail; counted = view.counted + k; owed = false })) (sym c.pass.ensures)
-    (subst (λ (m : McuState). Goes c.args.limit s (record m { core = core; devices = passed spent (record m.devices { memory = memory }); trail = trail; counted = m.counted + k; owed = false })) (sym is) goes)
+    let goes : GoesOn c.args.limit k s (record s { core = core; devices = passed spent (record s.devices { memory = memory }); trail = trail; counted = s.counted + k; owed = false }) =
+    rush-ends s c.args.limit most calm k core memory addresses trail spent ahead c.requires.awake (omega (arith, room, left, some)) some c.stretch-ran.ensures.least notes runs in
+    subst (λ d. GoesOn c.args.limit k s (record view { core = core; devices = d; trail = trail; counted = view.counted + k; owed = false })) (sym c.pass.ensures)
+    (subst (λ (m : McuState). GoesOn c.args.limit k s (record m { core = core; devices = passed spent (record m.devices { memory = memory }); trail = trail; counted = m.counted + k; owed = false })) (sym is) goes)
 
 pub returns-then-ran-gt0-clause-from : goal.returns-then-ran-gt0-clause-from
 returns-then-ran-gt0-clause-from c =

@@ -1,0 +1,10 @@
+use Rattle.std.proofs.Common.{◌≡◌, drop}
+use Rattle.board_gen.specs.Tokens.{each}
+use Rattle.board_gen.proofs.Each.{with_front}
+use Rattle.board_file.specs.Values.{chunk}
+use Rattle.board_file.specs.Views.{texts, bytes_of}
+use Rattle.board_file.proofs.values.all_chunks.Given as goal
+
+abbrev pub invariant-loop-text : goal.invariant-loop-text
+invariant-loop-text l =
+    with_front (bytes_of l.chunks.items) (each (chunk l.most) (texts (drop l.text-index l.written))) ≡ each (chunk l.most) (texts l.written)

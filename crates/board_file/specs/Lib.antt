@@ -1,0 +1,10 @@
+pub mod Keys
+pub mod Kinds
+pub mod Judged
+pub mod Known
+pub mod Rows
+pub mod Tables
+pub mod Peers
+pub mod Boards
+pub mod Values
+pub mod Views

@@ -1,0 +1,2 @@
+pub mod OverLives
+pub mod Growing
