@@ -1,4 +1,4 @@
-use crate::{Board, BoardError, Key, KeyKind, board};
+use crate::{Board, BoardError, board};
 use link_script::{Connects, Peer, PeerKind};
 use link_trait::Addr;
 use std::alloc::{AllocError, Global};
@@ -232,12 +232,5 @@ fn lists_end_somewhere(rt: HostRuntime) -> Result<(), Fail> {
         let found = fault_in(rt.alloc(), whole.as_bytes())?;
         assert_eq!(rt; found.as_str(), want, "{count} times {piece}");
     }
-    Ok(())
-}
-
-#[test]
-fn words_are_those_of_the_format(rt: HostRuntime) -> Result<(), Fail> {
-    assert_eq!(rt; Key::HostPort.word(), "host_port");
-    assert_eq!(rt; KeyKind::OutOfRange.word(), "OutOfRange");
     Ok(())
 }

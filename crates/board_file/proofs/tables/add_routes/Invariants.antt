@@ -1,4 +1,4 @@
-use Rattle.std.proofs.Common.{◌≡◌, ◌≤◌, drop, length}
+use Rattle.std.proofs.Common.{◌≡◌, drop}
 use Rattle.board_file.specs.Judged.{each_from}
 use Rattle.board_file.specs.Boards.{route}
 use Rattle.board_file.specs.Views.{tables}
