@@ -1,2 +1,4 @@
 mod Opens
-mod StandIn
+mod Quiet
+mod Counting
+mod Reserved

@@ -4,6 +4,8 @@
 #![tactic(auto)]
 
 mod chip;
+mod counts;
+mod exchange;
 pub mod laws;
 mod tally;
 
