@@ -8,6 +8,8 @@ mod counts;
 mod exchange;
 pub mod laws;
 mod tally;
+#[cfg(test)]
+mod tests;
 
 pub use chip::Chip;
 pub use tally::Tally;
