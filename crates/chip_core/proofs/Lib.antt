@@ -1,2 +1,5 @@
 mod Opens
-mod StandIn
+mod Quiet
+mod Counting
+mod Reserved
+mod Reaching

@@ -4,8 +4,12 @@
 #![tactic(auto)]
 
 mod chip;
+mod counts;
+mod exchange;
 pub mod laws;
 mod tally;
+#[cfg(test)]
+mod tests;
 
 pub use chip::Chip;
 pub use tally::Tally;
