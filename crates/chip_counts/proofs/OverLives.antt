@@ -63,7 +63,7 @@ is_size_few : (k : ℕ) → is_size k ≡ true → k ≤ 16
 is_size_few k h =
     size_few (eqb k 0) (eqb k 1) (eqb k 2) (eqb k 4) (eqb k 8) (eqb k 16) k h (eqb-true k 0) (eqb-true k 1) (eqb-true k 2) (eqb-true k 4) (eqb-true k 8) (eqb-true k 16)
 
-size_within : (past : Past) (sizes n : ℕ) → n < 8 → size past sizes n ≤ 16384
+pub size_within : (past : Past) (sizes n : ℕ) → n < 8 → size past sizes n ≤ 16384
 size_within past sizes n below =
     let ks = map (kilobytes past sizes) sockets in
     let k = kilobytes past sizes n in
