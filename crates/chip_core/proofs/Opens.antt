@@ -1,15 +1,15 @@
 -- Where bytes or datagrams are to be read the socket is open.
-use Rattle.std.proofs.Common.{◌≡◌, ℕ, ◌/◌, ◌%◌, ◌<◌, Bool, true, false, cond, eqb, ltb, Option, Some, None, refl}
+use Rattle.std.proofs.Common.{◌≡◌, ℕ, ◌/◌, ◌%◌, Bool, true, false, cond, eqb, ltb, Option, Some, None, refl}
 use Rattle.chip_sheet.specs.declared.event.Addr.{Addr}
 use Rattle.chip_sheet.specs.declared.event.ConnId.{ConnId}
 use Rattle.chip_sheet.specs.declared.socket.Status.{Status}
-use Rattle.chip_sheet.specs.declared.socket.Status.TheVariants.{Closed, Init, Listen, SynSent, Established, FinWait, CloseWait, LastAck, Udp}
+use Rattle.chip_sheet.specs.declared.socket.Status.TheVariants.{Listen, Established, FinWait, CloseWait, LastAck, Udp}
 use Rattle.chip_sheet.specs.declared.socket.Due.{Due}
 use Rattle.chip_sheet.specs.declared.socket.Due.TheVariants as due
 use Rattle.chip_sheet.specs.Past.{Past}
 use Rattle.chip_sheet.specs.Life.{Life, life, status}
 use Rattle.chip_sheet.specs.Streams.{Starts, is_open}
-use Rattle.chip_sheet.specs.LinkCalls.{outgoing_in, incoming_in, outgoing_of, incoming_of, outgoing, incoming, connection, due_at, kept_address, kept_port}
+use Rattle.chip_sheet.specs.LinkCalls.{outgoing_in, incoming_in, outgoing, incoming, connection, due_at, kept_address, kept_port}
 use Rattle.chip_sheet.specs.Windows.{flight, rx_free}
 
 -- a call that brings bytes in

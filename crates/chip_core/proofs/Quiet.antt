@@ -1,12 +1,10 @@
 -- Accesses that touch nothing.
-use Rattle.std.proofs.Common.{◌≡◌, ℕ, Bool, true, false, refl, ap}
+use Rattle.std.proofs.Common.{◌≡◌, ℕ, false, ap}
 use Rattle.board_bus.specs.declared.event.BusEvent.{BusEvent}
 use Rattle.board_bus.specs.declared.event.BusAnswer.{BusAnswer}
 use Rattle.chip_sheet.specs.declared.event.Entry.TheVariants.{Bus}
 use Rattle.chip_sheet.specs.declared.phase.Access.{Access}
-use Rattle.chip_sheet.specs.declared.phase.Access.TheVariants.{NoAccess, Read, Write}
-use Rattle.chip_sheet.specs.declared.socket.Cause.{Cause}
-use Rattle.chip_sheet.specs.declared.socket.Cause.TheVariants as because
+use Rattle.chip_sheet.specs.declared.phase.Access.TheVariants.{NoAccess, Read}
 use Rattle.chip_sheet.specs.Past.{Past}
 use Rattle.chip_sheet.specs.Frames.{access}
 use Rattle.chip_sheet.specs.Blocks.{registers_of, tx_buffer_of}

@@ -1,5 +1,5 @@
 -- A chip that some history led to, after one event more.
-use Rattle.std.proofs.Common.{◌≤◌, ◌+◌, ℕ, ◌∷◌, length, arith}
+use Rattle.std.proofs.Common.{◌+◌, ℕ, ◌∷◌, arith}
 use Rattle.std.specs.Prelude.{Result, Ok, Err, IfOk, IfErr}
 use Rattle.board_bus.specs.declared.event.BusEvent.{BusEvent}
 use Rattle.board_bus.specs.declared.event.BusAnswer.{BusAnswer}

@@ -1,7 +1,6 @@
-use Rattle.std.proofs.Common.{◌≡◌, ℕ, sym, ap, ◌∙◌, refl, Some}
+use Rattle.std.proofs.Common.{sym, ap, ◌∙◌, refl}
 use Rattle.std.proofs.lemmas.Result.{IfOk-weaker, IfErr-weaker}
 use Rattle.chip_sheet.specs.declared.event.Entry.TheVariants.{Bus}
-use Rattle.chip_sheet.specs.declared.phase.Access.TheVariants.{Read, Write}
 use Rattle.chip_sheet.specs.Answers.{byte_out}
 use Rattle.chip_steps.proofs.StopSteps.{no_access}
 use Rattle.chip_core.proofs.Quiet.{quiet_none, quiet_read, quiet_passes}

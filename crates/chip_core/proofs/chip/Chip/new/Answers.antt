@@ -1,4 +1,4 @@
-use Rattle.std.proofs.Common.{◌≡◌, ℕ, List, [], ◌∷◌, refl, get_or}
+use Rattle.std.proofs.Common.{ℕ, List, [], ◌∷◌, refl, get_or}
 use Rattle.chip_sheet.specs.Streams.{Starts}
 use Rattle.chip_parts.proofs.Eight.{at_eight}
 use Rattle.chip_core.specs.declared.counts.Counts.{Counts}
