@@ -1,7 +1,7 @@
 pub mod Front
 mod IdleAnswer
 mod LegalPlaces
-mod ToldLaws
+pub mod ToldLaws
 pub mod OverLives
 pub mod SentStands
 pub mod MadeKept

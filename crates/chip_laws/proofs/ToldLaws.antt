@@ -15,10 +15,10 @@ use Rattle.chip_sheet.specs.Legal.{Legal}
 use Rattle.chip_sheet.specs.Replay.{Step, Asks, Happens, AllTaken, StoppedBy, NotDue, Told, told, answered, ends_with, with_answer}
 
 -- One step and what the rest is told.
-abbrev asks : Option ChipStop → Past → BusAnswer → Told → Told
+abbrev pub asks : Option ChipStop → Past → BusAnswer → Told → Told
 asks clear past a rest = elim clear [ Some s ↦ ends_with past (StoppedBy s) | None ↦ with_answer a rest ]
 
-abbrev happens : Bool → Past → Told → Told
+abbrev pub happens : Bool → Past → Told → Told
 happens due past rest = elim due [ true ↦ rest | false ↦ ends_with past NotDue ]
 
 -- The whole is what the first steps are told and then the others.
