@@ -1,5 +1,10 @@
 mod Each
 mod Faults
-mod Front
-mod Lines
 mod Others
+mod Parts
+mod Readings
+mod Replays
+mod Together
+mod ToldLine
+mod ToldLines
+mod Weights
