@@ -1,23 +1,55 @@
--- A list made of parts, read from its front.
-use Rattle.std.proofs.Common.{◌≡◌, List, [], ◌∷◌, ◌++◌, Option, Some, None, option_map, refl, sym, ap, ◌∙◌, append_assoc}
+-- The steps of tokens, read from their front.
+use Rattle.std.proofs.Common.{◌≡◌, ℕ, List, [], ◌∷◌, Option, Some, None, option_map, refl, sym, ap, ◌∙◌}
+use Rattle.std.specs.Prelude.{IsSome}
 use Rattle.std.specs.Option.{option_and_then}
-use Rattle.board_gen.specs.Tokens.{each}
+use Rattle.chip_sheet.specs.Replay.{Step}
+use Rattle.board_gen.specs.Tokens.{tokens, token_step, steps}
 
--- the answer for what is left, behind what is done
-abbrev pub with_front : {B : Type 0} → List B → Option (List B) → Option (List B)
-with_front front rest = option_map (λ ys. front ++ ys) rest
+-- the first is a step
+pub steps_on : (words : List (List ℕ)) (word : List ℕ) (more : List (List ℕ)) (step : Step) → words ≡ word ∷ more → token_step word ≡ Some step
+    → steps words ≡ option_map (λ rest. step ∷ rest) (steps more)
+steps_on words word more step first is =
+    ap steps first ∙ ap (λ (o : Option Step). option_and_then (λ one. option_map (λ rest. one ∷ rest) (steps more)) o) is
 
-front_more : {B : Type 0} (front : List B) (y : B) (rest : Option (List B)) → with_front (front ++ y ∷ []) rest ≡ with_front front (option_map (λ ys. y ∷ ys) rest)
-front_more front y None = refl
-front_more front y (Some ys) = ap Some (append_assoc front (y ∷ []) ys)
+-- the first is none
+pub steps_none : (words : List (List ℕ)) (word : List ℕ) (more : List (List ℕ)) → words ≡ word ∷ more → token_step word ≡ None → steps words ≡ None
+steps_none words word more first is =
+    ap steps first ∙ ap (λ (o : Option Step). option_and_then (λ one. option_map (λ rest. one ∷ rest) (steps more)) o) is
 
--- one more is done
-pub each_more : {A B : Type 0} (f : A → Option B) (front : List B) (x : A) (y : B) (xs : List A) → f x ≡ Some y → with_front (front ++ y ∷ []) (each f xs) ≡ with_front front (each f (x ∷ xs))
-each_more f front x y xs is =
-    front_more front y (each f xs)
-    ∙ ap (λ (o : Option _). with_front front (option_and_then (λ z. option_map (λ zs. z ∷ zs) (each f xs)) o)) (sym is)
+mapped_there : (step : Step) (o : Option (List Step)) → IsSome o → IsSome (option_map (λ rest. step ∷ rest) o)
+mapped_there step None there = cc
+mapped_there step (Some rest) there = refl
 
--- one that gives nothing leaves nothing of all
-pub each_none : {A B : Type 0} (f : A → Option B) (front : List B) (x : A) (xs : List A) → f x ≡ None → with_front front (each f (x ∷ xs)) ≡ None
-each_none f front x xs is =
-    ap (λ (o : Option _). with_front front (option_and_then (λ z. option_map (λ zs. z ∷ zs) (each f xs)) o)) is
+there_mapped : (step : Step) (o : Option (List Step)) → IsSome (option_map (λ rest. step ∷ rest) o) → IsSome o
+there_mapped step None there = cc
+there_mapped step (Some rest) there = refl
+
+good_before : (words : List (List ℕ)) (word : List ℕ) (more : List (List ℕ)) (o : Option Step) → words ≡ word ∷ more → token_step word ≡ o → IsSome o → IsSome (steps more) → IsSome (steps words)
+good_before words word more None first is there good = cc
+good_before words word more (Some step) first is there good =
+    rw (steps_on words word more step first is) (mapped_there step (steps more) good)
+
+-- a step before others
+pub steps_good : (words : List (List ℕ)) (word : List ℕ) (more : List (List ℕ)) → words ≡ word ∷ more → IsSome (token_step word) → IsSome (steps more) → IsSome (steps words)
+steps_good words word more first there good = good_before words word more (token_step word) first refl there good
+
+bad_before : (words : List (List ℕ)) (word : List ℕ) (more : List (List ℕ)) (o : Option Step) → words ≡ word ∷ more → token_step word ≡ o → IsSome o → steps more ≡ None → steps words ≡ None
+bad_before words word more None first is there bad = cc
+bad_before words word more (Some step) first is there bad =
+    steps_on words word more step first is ∙ ap (option_map (λ (rest : List Step). step ∷ rest)) bad
+
+-- a step before texts that are not all steps
+pub steps_bad : (words : List (List ℕ)) (word : List ℕ) (more : List (List ℕ)) → words ≡ word ∷ more → IsSome (token_step word) → steps more ≡ None → steps words ≡ None
+steps_bad words word more first there bad = bad_before words word more (token_step word) first refl there bad
+
+-- what stands behind the first step
+pub steps_rest : (words : List (List ℕ)) (word : List ℕ) (more : List (List ℕ)) (step : Step) → words ≡ word ∷ more → token_step word ≡ Some step → IsSome (steps words) → IsSome (steps more)
+steps_rest words word more step first is good = there_mapped step (steps more) (rw (steps_on words word more step first is) at good)
+
+-- the first of texts that are all steps is one
+one_there : (words : List (List ℕ)) (word : List ℕ) (more : List (List ℕ)) (o : Option Step) → words ≡ word ∷ more → token_step word ≡ o → IsSome (steps words) → IsSome o
+one_there words word more None first is good = let none = rw (steps_none words word more first is) at good in cc
+one_there words word more (Some step) first is good = refl
+
+pub first_step : (words : List (List ℕ)) (word : List ℕ) (more : List (List ℕ)) → words ≡ word ∷ more → IsSome (steps words) → IsSome (token_step word)
+first_step words word more first good = one_there words word more (token_step word) first refl good

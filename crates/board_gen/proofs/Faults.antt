@@ -5,7 +5,7 @@ use Rattle.chip_sheet.specs.Replay.{Step}
 use Rattle.board_gen.specs.declared.fault.ScriptFault.{ScriptFault}
 use Rattle.board_gen.specs.Tokens.{tokens, steps}
 use Rattle.board_gen.specs.Script.{line_found, with_line, lines_from}
-use Rattle.board_gen.specs.Faults.{FirstFault, FaultsAreFirst, ReadsEachLine}
+use Rattle.board_gen.specs.Faults.{AllRead, FirstFault, FaultsAreFirst, ReadsEachLine}
 
 is_some : (o : Option (List Step)) (found : List Step) → o ≡ Some found → IsSome o
 is_some o found is = rw is refl
@@ -52,3 +52,16 @@ line_is n line more all (Some found) (Ok lines) is later h =
 pub each_line : ReadsEachLine
 each_line n [] found h = let none : [] ≡ found = cc in ap (map Some) none
 each_line n (line ∷ more) found h = line_is n line more found (steps (tokens line)) (lines_from (n + 1) more) refl (each_line (n + 1) more) h
+
+-- a line that is read before others
+pub all_read : (lines : List (List ℕ)) (line : List ℕ) (more : List (List ℕ)) → lines ≡ line ∷ more → IsSome (steps (tokens line)) → AllRead more → AllRead lines
+all_read lines line more first there read = rw first (there, read)
+
+later_fault : (n : ℕ) (o : Option (List Step)) (rest : Result (List (List Step)) ScriptFault) (fault : ScriptFault) → IsSome o → rest ≡ Err fault → with_line (line_found n o) rest ≡ Err fault
+later_fault n None rest fault there bad = cc
+later_fault n (Some found) rest fault there bad = ap (with_line (Ok found)) bad
+
+-- a line that is read before one with a fault
+pub fault_behind : (n : ℕ) (lines : List (List ℕ)) (line : List ℕ) (more : List (List ℕ)) (fault : ScriptFault) → lines ≡ line ∷ more → IsSome (steps (tokens line)) → lines_from (n + 1) more ≡ Err fault → lines_from n lines ≡ Err fault
+fault_behind n lines line more fault first there bad =
+    ap (lines_from n) first ∙ later_fault n (steps (tokens line)) (lines_from (n + 1) more) fault there bad

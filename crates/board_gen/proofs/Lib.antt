@@ -1,5 +1,11 @@
 pub mod Each
 mod Faults
-mod Front
-mod Lines
 mod Others
+mod Parts
+mod Readings
+mod Replays
+mod Together
+mod ToldLine
+mod ToldLines
+mod Weights
+pub mod ToldLaws

@@ -1,5 +1,5 @@
 -- The first fault of lines.
-use Rattle.std.specs.Prelude.{◌≡◌, ℕ, ◌+◌, List, [], ◌∷◌, ◌++◌, map, length, None, Some, IsSome, Ok, Err}
+use Rattle.std.specs.Prelude.{◌≡◌, ℕ, ◌+◌, List, [], ◌∷◌, ◌++◌, map, length, Bool, true, false, Option, None, Some, IsSome, Ok, Err}
 use Rattle.chip_sheet.specs.Replay.{Step}
 use Rattle.board_gen.specs.declared.fault.ScriptFault.{ScriptFault}
 use Rattle.board_gen.specs.declared.fault.ScriptKind.TheVariants.{BadToken}
@@ -10,6 +10,11 @@ use Rattle.board_gen.specs.Script.{lines_from}
 abbrev pub AllRead : List (List ℕ) → Type 0
 AllRead [] = Unit {0}
 AllRead (line ∷ more) = IsSome (steps (tokens line)) × AllRead more
+
+-- The answer tells whether there is something.
+abbrev pub Tells : {A : Type 0} → Bool → Option A → Type 0
+Tells true found = IsSome found
+Tells false found = found ≡ None
 
 -- The fault is at a line with a text that is no token, and at none before it; lines are counted from n.
 pub record FirstFault (n : ℕ) (lines : List (List ℕ)) (fault : ScriptFault) : Type 0 where

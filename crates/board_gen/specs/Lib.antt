@@ -2,7 +2,11 @@ pub mod Numbers
 pub mod Links
 pub mod Tokens
 pub mod Script
-pub mod Cuts
 pub mod Faults
 pub mod Views
 pub mod Heads
+pub mod SessionState
+pub mod Session
+pub mod Shown
+pub mod Run
+pub mod Replayed

@@ -27,9 +27,14 @@ parts text = map uncommented (slice_split (λ b. b == 10) text)
 abbrev pub script_lines : List ℕ → List (List ℕ)
 script_lines text = lines_of_parts (parts text)
 
--- What a script says: where the pointers start, and the steps of each of its lines.
+-- Both pointers 0, where a script has no line with them.
+abbrev pub no_starts : Starts
+no_starts = record { tx = 0; rx = 0 }
+
+-- What a script says: where the pointers start, and the steps of each of its lines, the first of which has this number.
 pub record Scripted : Type 0 where
   pub starts : Starts
+  pub number : ℕ
   pub lines : List (List Step)
 
 abbrev pub line_found : ℕ → Option (List Step) → Result (List Step) ScriptFault
@@ -71,18 +76,18 @@ abbrev pub head : List (List ℕ) → Head
 head [] = NoHead
 head (word ∷ more) = if bytes_eq word (codes "start") then behind_start more else NoHead
 
-abbrev pub scripted : Starts → Result (List (List Step)) ScriptFault → Result Scripted ScriptFault
-scripted starts (Ok lines) = Ok (record { starts = starts; lines = lines })
-scripted starts (Err fault) = Err fault
+abbrev pub scripted : Starts → ℕ → Result (List (List Step)) ScriptFault → Result Scripted ScriptFault
+scripted starts n (Ok lines) = Ok (record { starts = starts; number = n; lines = lines })
+scripted starts n (Err fault) = Err fault
 
--- The script of lines that begin so; a line with the pointers has no steps.
+-- The script of lines that begin so: a line with the pointers has no steps, and those behind it are counted from 2.
 abbrev pub headed : Head → List ℕ → List (List ℕ) → Result Scripted ScriptFault
-headed NoHead first more = scripted (record { tx = 0; rx = 0 }) (lines_from 1 (first ∷ more))
-headed (Pointers starts) first more = scripted starts (lines_from 1 ([] ∷ more))
+headed NoHead first more = scripted no_starts 1 (lines_from 1 (first ∷ more))
+headed (Pointers starts) first more = scripted starts 2 (lines_from 2 more)
 headed Unreadable first more = Err (record { line = 1; kind = BadHead })
 
 abbrev pub of_lines : List (List ℕ) → Result Scripted ScriptFault
-of_lines [] = Ok (record { starts = record { tx = 0; rx = 0 }; lines = [] })
+of_lines [] = Ok (record { starts = no_starts; number = 1; lines = [] })
 of_lines (first ∷ more) = headed (head (tokens first)) first more
 
 -- The script that a text is, or its first fault.

@@ -1,7 +1,6 @@
 -- What the program's values say, as the definitions of scripts have them.
-use Rattle.std.specs.Prelude.{◌≡◌, ℕ, List, map, Result, Ok, Err, Vec}
+use Rattle.std.specs.Prelude.{◌≡◌, ℕ, List, map, Result, Ok, Err}
 use Rattle.std.specs.Borrow.{Bor}
-use Rattle.std.specs.declared.alloc.Global.{Global}
 use Rattle.chip_sheet.specs.declared.event.LinkEntry.TheVariants as entry
 use Rattle.chip_sheet.specs.declared.event.LinkEntry.{LinkEntry}
 use Rattle.chip_sheet.specs.Replay.{Step, Asks, Happens}
@@ -9,11 +8,9 @@ use Rattle.board_gen.specs.declared.token.LinkToken.{LinkToken}
 use Rattle.board_gen.specs.declared.token.LinkToken.TheVariants.{Linked, Accepted, Refused, TimedOut, Took, Got, Datagram, Ended, Shut, Failed, Dropped}
 use Rattle.board_gen.specs.declared.token.Token.{Token}
 use Rattle.board_gen.specs.declared.token.Token.TheVariants.{Bus, Link}
-use Rattle.board_gen.specs.declared.script.Script.{Script}
 use Rattle.board_gen.specs.declared.fault.ScriptFault.{ScriptFault}
 use Rattle.board_gen.specs.declared.fault.ReadError.{ReadError}
 use Rattle.board_gen.specs.declared.fault.ReadError.TheVariants.{Fault, NoMemory}
-use Rattle.board_gen.specs.Script.{Scripted}
 
 -- The texts that these slices show.
 abbrev pub texts : List (Bor (List ℕ)) → List (List ℕ)
@@ -38,24 +35,7 @@ abbrev pub step_of : Token → Step
 step_of (Bus e) = Asks e
 step_of (Link step) = Happens step.socket (entry_of step.what)
 
-abbrev pub steps_of : List Token → List Step
-steps_of = map step_of
-
-abbrev pub lines_of : List (Vec Token Global) → List (List Step)
-lines_of = map (λ line. steps_of line.items)
-
-abbrev pub script_said : Script → Scripted
-script_said script = record {
-  starts = record { tx = script.tx_start; rx = script.rx_start };
-  lines = lines_of script.lines.items;
-}
-
 -- An error that reading gives: want of memory, or the fault that is found.
 abbrev pub Errs : {Y : Type 0} → ReadError → Result Y ScriptFault → Type 0
 Errs NoMemory read = Unit {0}
 Errs (Fault fault) read = read ≡ Err fault
-
--- What the code gives, seen by a view, is what reading gives, where memory was there.
-abbrev pub Gives : {X Y : Type 0} → (X → Y) → Result X ReadError → Result Y ScriptFault → Type 0
-Gives view (Ok x) read = read ≡ Ok (view x)
-Gives view (Err e) read = Errs e read

@@ -1,10 +1,8 @@
-// Texts cut into parts.
-ghost use Rattle.std.specs.Prelude.{◌≡◌, ◌==◌, ◌<◌, ◌+◌, IfOk, length, map, ◌≤◌};
+// Texts cut into lines and tokens, one after another, without memory.
+ghost use Rattle.std.specs.Prelude.{◌≡◌, ◌==◌, ◌<◌, ◌≤◌, ◌+◌, ◌∷◌, [], length, IfOk, IfSome, MatchOption};
 ghost use Rattle.std.specs.List.{slice_split, position};
-ghost use Rattle.std.specs.Option.{option_copied};
-ghost use Rattle.std.specs.Str.Lines.{strip_carriage_return, lines_of_parts};
+ghost use Rattle.std.specs.Str.Lines.{strip_carriage_return};
 ghost use Rattle.board_gen.specs.Script.{uncommented, script_lines};
-ghost use Rattle.board_gen.specs.Cuts.{IsLineAt};
 ghost use Rattle.board_gen.specs.Tokens.{tokens};
 ghost use Rattle.board_gen.specs.Views.{texts};
 
@@ -17,32 +15,30 @@ pub fn parts(alloc: Global, text: &[u8], at: u8) -> Result<Vec<&[u8]>, AllocErro
     text.split(|b| *b == at).collect(alloc)
 }
 
-/// The tokens of a line.
-pub fn tokens(alloc: Global, line: &[u8]) -> Result<Vec<&[u8]>, AllocError>
-    ensures { IfOk result (λ v. texts v.items ≡ tokens line.now) }
+// The first place of a byte in a text.
+fn place_of(text: &[u8], byte: u8) -> Option<usize>
+    ensures { result ≡ position (λ b. b == byte) text.now }
 {
-    let parts = parts(alloc, line, b' ')?;
-    let mut tokens = Vec::new(alloc);
-    for part in &parts {
-        if !part.is_empty() {
-            tokens.push(*part)?;
-        }
-    }
-    Ok(tokens)
+    text.iter().position(|b| *b == byte)
 }
 
-// The place of the first `#`.
-fn comment(part: &[u8]) -> Option<usize>
-    ensures { result ≡ position (λ b. b == 35) part.now }
+// A text up to the first place of a byte, and what stands behind that place; `None` where the byte is not in it.
+fn cut(text: &[u8], byte: u8) -> Option<(&[u8], &[u8])>
+    ensures parts { MatchOption result (slice_split (λ b. b == byte) text.now ≡ text.now ∷ []) (λ p. slice_split (λ b. b == byte) text.now ≡ p.0.now ∷ slice_split (λ b. b == byte) p.1.now) }
+    ensures sizes { IfSome result (λ p. length p.0.now + 1 + length p.1.now ≡ length text.now) }
 {
-    part.iter().position(|b| *b == b'#')
+    match place_of(text, byte) {
+        Some(at) => Some((&text[..at], &text[at + 1..])),
+        None => None,
+    }
 }
 
 // A part without its comment.
 fn uncommented(part: &[u8]) -> &[u8]
-    ensures { result.now ≡ uncommented part.now }
+    ensures is { result.now ≡ uncommented part.now }
+    ensures shorter { length result.now ≤ length part.now }
 {
-    match comment(part) {
+    match place_of(part, b'#') {
         Some(at) => &part[..at],
         None => part,
     }
@@ -50,7 +46,8 @@ fn uncommented(part: &[u8]) -> &[u8]
 
 // A line without the carriage return at its end, if it has one.
 fn without_return(line: &[u8]) -> &[u8]
-    ensures { result.now ≡ strip_carriage_return line.now }
+    ensures is { result.now ≡ strip_carriage_return line.now }
+    ensures shorter { length result.now ≤ length line.now }
 {
     if line.last() == Some(&b'\r') {
         &line[..line.len() - 1]
@@ -59,45 +56,53 @@ fn without_return(line: &[u8]) -> &[u8]
     }
 }
 
-// The parts between line feeds, without their comments.
-fn uncommented_parts(alloc: Global, text: &[u8]) -> Result<Vec<&[u8]>, AllocError>
-    ensures { IfOk result (λ v. texts v.items ≡ map uncommented (slice_split (λ b. b == 10) text.now)) }
+// The line of a text without a line feed: none where nothing stands in it but a comment.
+fn last_line(text: &[u8]) -> Option<&[u8]>
+    requires { slice_split (λ b. b == 10) text.now ≡ text.now ∷ [] }
+    ensures lines { MatchOption result (script_lines text.now ≡ []) (λ line. script_lines text.now ≡ line.now ∷ []) }
+    ensures some { IfSome result (λ line. 0 < length line.now) }
+    ensures within { IfSome result (λ line. length line.now ≤ length text.now) }
 {
-    let parts = parts(alloc, text, b'\n')?;
-    let mut cut = Vec::new(alloc);
-    for part in &parts {
-        cut.push(uncommented(part))?;
-    }
-    Ok(cut)
+    let line = uncommented(text);
+    if line.is_empty() { None } else { Some(line) }
 }
 
-// The line that a part between line feeds is. An empty last part is none, and only a part before a line feed loses its
-// carriage return.
-fn line_at<'a>(parts: &[&'a [u8]], i: usize) -> Option<&'a [u8]>
-    requires { i < length parts.now }
-    ensures { IsLineAt (texts parts.now) i (option_copied result) }
+/// The first line of a script, without its comment, and the text behind it; `None` where it has none. An empty last part is no
+/// line, and only a line that ends with a line feed loses its carriage return.
+pub fn first_line(text: &[u8]) -> Option<(&[u8], &[u8])>
+    ensures lines { MatchOption result (script_lines text.now ≡ []) (λ p. script_lines text.now ≡ p.0.now ∷ script_lines p.1.now) }
+    ensures shorter { IfSome result (λ p. length p.1.now < length text.now) }
+    ensures within { IfSome result (λ p. length p.0.now ≤ length text.now) }
+    // A byte stands between the line and what is left, where something is.
+    ensures between { IfSome result (λ p. 0 < length p.1.now → length p.0.now + 1 + length p.1.now ≤ length text.now) }
 {
-    let part = parts[i];
-    if i + 1 < parts.len() {
-        Some(without_return(part))
-    } else if part.is_empty() {
+    match cut(text, b'\n') {
+        Some((part, rest)) => Some((without_return(uncommented(part)), rest)),
+        None => match last_line(text) {
+            Some(line) => Some((line, &text[text.len()..])),
+            None => None,
+        },
+    }
+}
+
+/// The first token of a line, and what stands behind it; `None` where it has none.
+pub fn first_token(line: &[u8]) -> Option<(&[u8], &[u8])>
+    ensures tokens { MatchOption result (tokens line.now ≡ []) (λ p. tokens line.now ≡ p.0.now ∷ tokens p.1.now) }
+    ensures shorter { IfSome result (λ p. length p.1.now < length line.now) }
+    ensures within { IfSome result (λ p. length p.0.now ≤ length line.now) }
+    // A byte stands between the token and what is left, where something is.
+    ensures between { IfSome result (λ p. 0 < length p.1.now → length p.0.now + 1 + length p.1.now ≤ length line.now) }
+{
+    let mut rest = line;
+    while let Some((token, after)) = cut(rest, b' ') {
+        if !token.is_empty() {
+            return Some((token, after));
+        }
+        rest = after;
+    }
+    if rest.is_empty() {
         None
     } else {
-        Some(part)
+        Some((rest, &rest[rest.len()..]))
     }
-}
-
-/// The lines of a script, without comments.
-pub fn lines(alloc: Global, text: &[u8]) -> Result<Vec<&[u8]>, AllocError>
-    ensures is { IfOk result (λ v. texts v.items ≡ script_lines text.now) }
-    ensures fits { IfOk result (λ v. length v.items ≤ length text.now + 1) }
-{
-    let parts = uncommented_parts(alloc, text)?;
-    let mut lines = Vec::new(alloc);
-    for i in 0..parts.len() {
-        if let Some(line) = line_at(&parts, i) {
-            lines.push(line)?;
-        }
-    }
-    Ok(lines)
 }

@@ -5,18 +5,25 @@
 //! connections; all others hold tokens with spaces between. The definition that `read` is proved against stands in `specs/`.
 #![tactic(auto)]
 
+mod check;
 mod cuts;
+pub mod end;
 pub mod fault;
 mod head;
 pub mod laws;
+mod line;
 pub mod links;
 pub mod numbers;
-pub mod script;
+mod run;
+pub mod scripts;
+pub mod session;
 pub mod token;
 mod tokens;
+pub mod told;
 
+pub use end::{ScriptEnd, ScriptStop};
 pub use fault::{ReadError, ScriptFault, ScriptKind};
-pub use script::{Script, read};
+pub use scripts::script;
 pub use token::{LinkStep, LinkToken, Token};
 
 #[cfg(test)]

@@ -1,8 +1,8 @@
-// The tokens of a line.
+// The tokens of scripts.
 ghost use Rattle.std.specs.Prelude.{◌≡◌, IfOk, option_map};
-ghost use Rattle.board_gen.specs.Tokens.{letter, byte_read, token_step, steps};
+ghost use Rattle.board_gen.specs.Tokens.{letter, byte_read, token_step};
 ghost use Rattle.hex.specs.Hex.{decode_sized};
-ghost use Rattle.board_gen.specs.Views.{texts, step_of, steps_of};
+ghost use Rattle.board_gen.specs.Views.{step_of};
 
 use crate::links::link;
 use crate::token::Token;
@@ -32,8 +32,12 @@ fn byte(text: &[u8]) -> Option<Token>
     }
 }
 
-// The token that a text is, if it is one.
-fn token(alloc: Global, text: &[u8]) -> Result<Option<Token>, AllocError>
+/// The token that a text is, if it is one.
+///
+/// # Errors
+///
+/// Want of memory alone, and that only for a link token.
+pub fn token_of(alloc: Global, text: &[u8]) -> Result<Option<Token>, AllocError>
     ensures { IfOk result (λ token. option_map step_of token ≡ token_step text.now) }
 {
     match text {
@@ -42,22 +46,4 @@ fn token(alloc: Global, text: &[u8]) -> Result<Option<Token>, AllocError>
         [_, _] => Ok(byte(text)),
         _ => link(alloc, text),
     }
-}
-
-/// The tokens that these texts are, where each is one.
-///
-/// # Errors
-///
-/// Want of memory alone.
-pub fn tokens_of(alloc: Global, words: &[&[u8]]) -> Result<Option<Vec<Token>>, AllocError>
-    ensures { IfOk result (λ v. option_map (λ v. steps_of v.items) v ≡ steps (texts words.now)) }
-{
-    let mut tokens = Vec::new(alloc);
-    for word in words {
-        match token(alloc, word)? {
-            Some(token) => tokens.push(token)?,
-            None => return Ok(None),
-        }
-    }
-    Ok(Some(tokens))
 }

@@ -10,4 +10,3 @@ pub mod kept;
 pub mod legal;
 pub mod stands;
 pub mod supplied;
-pub mod told;

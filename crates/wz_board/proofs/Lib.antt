@@ -1,12 +1,5 @@
 mod Causes
-mod Cuts
-mod Each
 mod Heads
 mod Listed
-mod Places
-mod Ran
-mod Runs
-mod Scripts
 mod Shown
-mod Spaces
 mod Used

@@ -1,13 +1,16 @@
 -- Statuses and texts of the ends of a command.
 use Rattle.std.specs.Prelude.{ℕ, List, [], ◌∷◌, ◌++◌, codes}
 use Rattle.std.specs.Fmt.{decimal}
+use Rattle.board_gen.specs.declared.fault.ScriptFault.{ScriptFault}
+use Rattle.board_gen.specs.declared.fault.ScriptKind.{ScriptKind}
+use Rattle.board_gen.specs.declared.fault.ScriptKind.TheVariants.{BadHead, BadToken, NotDue}
 use Rattle.ihex.specs.declared.fault.HexFault.{HexFault}
 use Rattle.ihex.specs.declared.fault.HexKind.{HexKind}
 use Rattle.ihex.specs.declared.fault.HexKind.TheVariants.{AfterEnd, BadStart, BadDigit, BadLength, BadSum, BadType, OutOfFlash, NoEnd}
 use Rattle.wz_board.specs.declared.end.Refusal.{Refusal}
-use Rattle.wz_board.specs.declared.end.Refusal.TheVariants.{Usage, NoFile, ReadFault, TooLong, Hex, NotBuilt}
+use Rattle.wz_board.specs.declared.end.Refusal.TheVariants.{Usage, NoFile, ReadFault, TooLong, Hex, Script}
 use Rattle.wz_board.specs.declared.end.EndKind.{EndKind}
-use Rattle.wz_board.specs.declared.end.EndKind.TheVariants.{Done, WriteFault, NoMemory, Refused}
+use Rattle.wz_board.specs.declared.end.EndKind.TheVariants.{Done, Chip, WriteFault, NoMemory, Refused}
 
 -- The exit status of an end.
 abbrev pub status_of : EndKind → ℕ
@@ -19,7 +22,8 @@ status_of (Refused ReadFault) = 5
 status_of WriteFault = 6
 status_of NoMemory = 7
 status_of (Refused TooLong) = 11
-status_of (Refused NotBuilt) = 12
+status_of (Refused (Script fault)) = 14
+status_of (Chip s) = 20
 
 -- The name of a kind of fault.
 abbrev pub kind_text : HexKind → List ℕ
@@ -36,6 +40,16 @@ kind_text NoEnd = codes "NoEnd"
 abbrev pub hex_text : HexFault → List ℕ
 hex_text fault = codes "fault hex " ++ kind_text fault.kind ++ 32 ∷ (decimal fault.line ++ 10 ∷ [])
 
+-- The name of a kind of fault of a script.
+abbrev pub script_kind_text : ScriptKind → List ℕ
+script_kind_text BadHead = codes "BadHead"
+script_kind_text BadToken = codes "BadToken"
+script_kind_text NotDue = codes "NotDue"
+
+-- The line that the fault of a script prints.
+abbrev pub script_text : ScriptFault → List ℕ
+script_text fault = codes "fault script " ++ script_kind_text fault.kind ++ 32 ∷ (decimal fault.line ++ 10 ∷ [])
+
 -- The line that a refusal prints; 1 is the number of the operand.
 abbrev pub fault_text : Refusal → List ℕ
 fault_text Usage = codes "fault usage\n"
@@ -43,7 +57,7 @@ fault_text NoFile = codes "fault nofile 1\n"
 fault_text ReadFault = codes "fault read 1\n"
 fault_text TooLong = codes "fault long 1\n"
 fault_text (Hex fault) = hex_text fault
-fault_text NotBuilt = codes "fault not-built\n"
+fault_text (Script fault) = script_text fault
 
 -- A refusal whose line has no values.
 abbrev pub IsPlain : Refusal → Type 0
@@ -52,4 +66,4 @@ IsPlain NoFile = Unit {0}
 IsPlain ReadFault = Unit {0}
 IsPlain TooLong = Unit {0}
 IsPlain (Hex fault) = ⊥
-IsPlain NotBuilt = Unit {0}
+IsPlain (Script fault) = ⊥

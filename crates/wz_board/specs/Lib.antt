@@ -1,10 +1,4 @@
-pub mod Log
 pub mod Words
-pub mod Script
-pub mod Session
-pub mod SessionState
-pub mod Text
 pub mod Listing
-pub mod Run
 pub mod Ends
 pub mod Outcome

@@ -6,7 +6,7 @@ use Rattle.avr_table.specs.declared.fault.DecodeFault.{DecodeFault}
 use Rattle.avr_table.specs.Decoded.{decoded}
 use Rattle.avr_table.specs.Words.{words_of}
 use Rattle.avr_enc.specs.Text.{text_of}
-use Rattle.wz_board.specs.Text.{digit}
+use Rattle.board_text.specs.Answers.{digit}
 
 -- A word as four hexadecimal digits, in upper case.
 abbrev pub word_text : ℕ → List ℕ

@@ -1,8 +1,10 @@
 //! How a command ends, and what it prints of a refusal.
 ghost use Rattle.std.specs.Prelude.{◌≡◌, string_bytes, IfOk};
-ghost use Rattle.wz_board.specs.Ends.{fault_text, hex_text, kind_text, status_of, IsPlain};
+ghost use Rattle.wz_board.specs.Ends.{fault_text, hex_text, kind_text, script_kind_text, script_text, status_of, IsPlain};
 
-use crate::history::History;
+use board_gen::{ScriptFault, ScriptKind};
+use chip_hist::history::History;
+use chip_sheet::stop::ChipStop;
 use ihex::{HexFault, HexKind};
 use std::alloc::{AllocError, Global};
 
@@ -19,8 +21,8 @@ pub enum Refusal {
     TooLong,
     /// The text is no Intel HEX image.
     Hex(HexFault),
-    /// The script asks for something that is not built yet.
-    NotBuilt,
+    /// The text is no script, or a link event in it does not fit.
+    Script(ScriptFault),
 }
 
 /// How a command ended.
@@ -28,6 +30,8 @@ pub enum Refusal {
 pub enum EndKind {
     /// It finished.
     Done,
+    /// The chip answered a stop.
+    Chip(ChipStop),
     /// A call of the sink failed, and its count of faults rose.
     WriteFault,
     /// It ran out of memory.
@@ -39,9 +43,9 @@ pub enum EndKind {
 /// What a command leaves.
 #[derive(Drop)]
 pub struct QuickEnd {
-    /// The exit status of the program, 0 to 12.
+    /// The exit status of the program, 0 to 20.
     pub status: u8,
-    /// What happened on the chip's bus, empty where the command made no event.
+    /// What happened on the chip's bus and its links, empty where the command made no event.
     pub history: History,
     /// How the command ended.
     pub end: EndKind,
@@ -60,7 +64,8 @@ pub fn status_of(end: EndKind) -> u8
         EndKind::WriteFault => 6,
         EndKind::NoMemory => 7,
         EndKind::Refused(Refusal::TooLong) => 11,
-        EndKind::Refused(Refusal::NotBuilt) => 12,
+        EndKind::Refused(Refusal::Script(_)) => 14,
+        EndKind::Chip(_) => 20,
     }
 }
 
@@ -74,8 +79,7 @@ pub fn fault_text(refusal: Refusal) -> &'static str
         Refusal::NoFile => "fault nofile 1\n",
         Refusal::ReadFault => "fault read 1\n",
         Refusal::TooLong => "fault long 1\n",
-        Refusal::NotBuilt => "fault not-built\n",
-        Refusal::Hex(_) => unreachable!(),
+        Refusal::Hex(_) | Refusal::Script(_) => unreachable!(),
     }
 }
 
@@ -106,4 +110,28 @@ pub fn hex_text(alloc: Global, fault: HexFault) -> Result<String, AllocError>
     let kind = kind_text(fault.kind);
     let line = fault.line;
     format!(in alloc; "fault hex {kind} {line}\n")
+}
+
+/// The name of a kind of fault of a script.
+fn script_kind_text(kind: ScriptKind) -> &'static str
+    ensures { result.now ≡ script_kind_text kind }
+{
+    match kind {
+        ScriptKind::BadHead => "BadHead",
+        ScriptKind::BadToken => "BadToken",
+        ScriptKind::NotDue => "NotDue",
+    }
+}
+
+/// The line that the fault of a script prints.
+///
+/// # Errors
+///
+/// Out of memory alone.
+pub fn script_text(alloc: Global, fault: ScriptFault) -> Result<String, AllocError>
+    ensures { IfOk result (λ t. string_bytes t ≡ script_text fault) }
+{
+    let kind = script_kind_text(fault.kind);
+    let line = fault.line;
+    format!(in alloc; "fault script {kind} {line}\n")
 }

@@ -4,12 +4,12 @@ ghost use Rattle.wz_base.specs.Lines.{Gathers};
 ghost use Rattle.wz_base.specs.Outside.{RisesOnly};
 ghost use Rattle.wz_base.specs.Whole.{Appends, AppendsFront};
 ghost use Rattle.wz_base.specs.declared.lines.TheConstants.{PIECE_ROOM};
-ghost use Rattle.wz_board.specs.Text.{digit};
+ghost use Rattle.board_text.specs.Answers.{digit};
 ghost use Rattle.wz_board.specs.Listing.{entry_text, flash_word, head_text, listing, long_head, short_head, said_at, tail_text, used, words_said};
 
-use crate::text::digit;
 use avr_enc::line_of;
 use avr_table::{DecodeFault, Instr, decode};
+use board_text::answers::digit;
 use flash::Image;
 use wz_base::{LineBuffer, Sink, WriteError};
 

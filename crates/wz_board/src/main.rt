@@ -3,16 +3,11 @@
 #![tactic(auto)]
 
 mod end;
-mod history;
 mod laws;
 mod listing;
 mod quick;
-mod run;
-mod script;
-mod session;
 #[cfg(test)]
 mod tests;
-mod text;
 mod words;
 
 use std::process::ExitCode;

@@ -37,39 +37,184 @@ fn run(
     Ok(ended)
 }
 
-#[test]
-fn runs_scripts(rt: HostRuntime) -> Result<(), Fail> {
-    for (script, shown, status) in [
-        ("L 00 39 00 00 H", "00 00 00 04\n", 0),
-        ("00 L 00 39 00 00 H", "FF 00 00 00 04\n", 0),
-        (
-            "L 00 19 00 00 00 H\nL 00 19 04 03 E8 H\nL 00 19 00 00 00 H\n",
-            "00 00 00 07 D0\n00 00 00 00 00\n00 00 00 03 E8\n",
-            0,
-        ),
-        (
-            "L 00 39 01 00 00 1B 01 00 H",
-            "00 00 00 04 00 00 00 08\n",
-            0,
-        ),
-        (
-            "L 00 01 04 0A 00 00 01 H\r\nL 00 00 04 80 H\r\nL 00 00 00 00 00 H\r\n",
-            "00 00 00 00 00 00 00\n00 00 00 00\n00 00 00 00 00\n",
-            0,
-        ),
-        ("L 00 00 20 00 H", "00 00 00\nfault not-built\n", 12),
-        ("L 00 00 04 08 H", "00 00 00\nfault not-built\n", 12),
-        ("L 00 39 00 00 H\nL 0G H", "fault not-built\n", 12),
-        ("L\r", "fault not-built\n", 12),
-        ("\n\nL H\n", "", 0),
-        ("", "", 0),
-    ] {
-        let mut out = Vec::new(rt.alloc());
-        let bytes = script.as_bytes().to_vec(rt.alloc())?;
-        let ended = run(rt.alloc(), &["bus", "s"], bytes, (&[], &[]), &mut out)?;
-        assert_eq!(rt; out.as_slice(), shown.as_bytes(), "{script}");
-        assert_eq!(rt; ended.map(|e| e.status), Some(status), "{script}");
+/// Socket 0 opened for TCP, connected, and linked; and what that prints.
+const C0: &str = "L 00 00 0C 01 H L 00 01 0C 01 H L 00 01 0C 04 H @0:linked\n";
+
+const C0_TEXT: &str = "00 00 00 00 00 00 00 00 00 00 00 00\n";
+
+/// What is printed of so many bytes that are written.
+const W7: &str = "00 00 00 00 00 00 00\n";
+
+const W8: &str = "00 00 00 00 00 00 00 00\n";
+
+const W9: &str = "00 00 00 00 00 00 00 00 00\n";
+
+/// A SEND of so many bytes on socket 0, for the first of a life.
+const SEND_2: &str = "L 00 24 0C 00 02 H L 00 01 0C 20 H\n";
+
+const SEND_5: &str = "L 00 00 14 01 02 03 04 05 H L 00 24 0C 00 05 H L 00 01 0C 20 H\n";
+
+const SEND_5_TEXT: &str = "00 00 00 00 00 00 00 00 00 00 00 00 00 00 00 00 00\n";
+
+/// Runs scripts, each of pieces that stand one behind another, as what they print does.
+fn run_scripts(alloc: Global, rows: &[(&[&str], &[&str], u8)]) -> Result<Option<usize>, Fail> {
+    for (i, (script, shown, status)) in rows.iter().enumerate() {
+        let mut text = Vec::new(alloc);
+        for piece in *script {
+            text.extend_from_slice(piece.as_bytes())?;
+        }
+        let mut want = Vec::new(alloc);
+        for piece in *shown {
+            want.extend_from_slice(piece.as_bytes())?;
+        }
+        let mut out = Vec::new(alloc);
+        let ended = run(alloc, &["bus", "s"], text, (&[], &[]), &mut out)?;
+        if out != want || ended.map(|e| e.status) != Some(*status) {
+            return Ok(Some(i));
+        }
     }
+    Ok(None)
+}
+
+#[test]
+fn runs_scripts_of_the_bus(rt: HostRuntime) -> Result<(), Fail> {
+    let wrong = run_scripts(
+        rt.alloc(),
+        &[
+            (&["L 00 39 00 00 H"], &["00 00 00 04\n"], 0),
+            (&["00 L 00 39 00 00 H"], &["FF 00 00 00 04\n"], 0),
+            (
+                &["L 00 19 00 00 00 H\nL 00 19 04 03 E8 H\nL 00 19 00 00 00 H\n"],
+                &["00 00 00 07 D0\n00 00 00 00 00\n00 00 00 03 E8\n"],
+                0,
+            ),
+            (
+                &["L 00 39 01 00 00 1B 01 00 H"],
+                &["00 00 00 04 00 00 00 08\n"],
+                0,
+            ),
+            (
+                &["L 00 01 04 0A 00 00 01 H\r\nL 00 00 04 80 H\r\nL 00 00 00 00 00 H\r\n"],
+                &[W7, "00 00 00 00\n00 00 00 00 00\n"],
+                0,
+            ),
+            (
+                &["L 00 00 20 00 H"],
+                &["00 00 00\nstop ReservedBlock 4\n"],
+                20,
+            ),
+            (&["L 00 00 04 08 H"], &["00 00 00\nstop Pppoe\n"], 20),
+            (
+                &["L 00 39 00 00 H\nL 0G H"],
+                &["fault script BadToken 2\n"],
+                14,
+            ),
+            (&["start 0 65536\n0G"], &["fault script BadHead 1\n"], 14),
+            (&["L\r"], &["fault script BadToken 1\n"], 14),
+            (&["00 @0:took:1"], &["FF\nfault script NotDue 1\n"], 14),
+            (&["\n\nL H # none\n"], &[], 0),
+            (&[""], &[], 0),
+        ],
+    )?;
+    assert_eq!(rt; wrong, None);
+    Ok(())
+}
+
+#[test]
+fn runs_scripts_of_sockets(rt: HostRuntime) -> Result<(), Fail> {
+    let wrong = run_scripts(
+        rt.alloc(),
+        &[
+            (
+                &[
+                    "start 2047 0\n",
+                    C0,
+                    "L 07 FF 14 AA BB H L 00 24 0C 08 01 H L 00 01 0C 20 H\nL 00 00 10 00 H\nL 00 20 08 00 00 H\n",
+                ],
+                &[
+                    C0_TEXT,
+                    "00 00 00 00 00 00 00 00 00 00 00 00 00 00\n",
+                    "00 00 00 BB\n00 00 00 07 FE\n",
+                ],
+                0,
+            ),
+            (
+                &[
+                    C0,
+                    SEND_5,
+                    "@0:took:2 L 00 02 08 00 H\n@0:took:3 L 00 02 08 00 H\n",
+                ],
+                &[C0_TEXT, SEND_5_TEXT, "00 00 00 01\n00 00 00 11\n"],
+                0,
+            ),
+            (
+                &[C0, SEND_2, "L 00 02 14 55 H\nL 00 00 14 55 H\n"],
+                &[
+                    C0_TEXT,
+                    W9,
+                    "00 00 00 00\n00 00 00\nstop OverwriteInFlight 0 0\n",
+                ],
+                20,
+            ),
+            (
+                &["L 00 00 0C 04 H L 00 01 0C 01 H"],
+                &[W7, "stop RawEthernet 0\n"],
+                20,
+            ),
+            (
+                &[
+                    C0,
+                    "@0:ended L 00 02 08 00 00 H\nL 00 01 0C 08 H L 00 03 08 00 H\n@0:shut L 00 03 08 00 H\n",
+                ],
+                &[
+                    C0_TEXT,
+                    "00 00 00 03 1C\n00 00 00 00 00 00 00 1D\n00 00 00 00\n",
+                ],
+                0,
+            ),
+            (
+                &[C0, SEND_2, "@0:failed L 00 02 08 00 00 H\n"],
+                &[C0_TEXT, W9, "00 00 00 09 00\n"],
+                0,
+            ),
+            (
+                &[C0, "L 00 17 00 00 H ?\nL 00 18 04 01 H ?\n"],
+                &[C0_TEXT, "00 00 00 01 1\n00 00 00 00 0\n"],
+                0,
+            ),
+            (
+                &[
+                    "L 00 00 2C 02 H L 00 01 2C 01 H @1:datagram:10.0.0.2:5000:6869\nL 00 26 28 00 00 H\nL 00 00 38 00 00 00 00 00 00 00 00 00 00 H\n",
+                ],
+                &[
+                    W8,
+                    "00 00 00 00 0A\n00 00 00 0A 00 00 02 13 88 00 02 68 69\n",
+                ],
+                0,
+            ),
+            (
+                &[C0, "L 00 1F 0C 04 H"],
+                &[C0_TEXT, "00 00 00\nstop SizeWhileOpen 0\n"],
+                20,
+            ),
+            (
+                &[C0, "L 00 24 0C 08 01 H L 00 01 0C 20 H"],
+                &[C0_TEXT, W8, "stop SendTooLong 0 2049 2048\n"],
+                20,
+            ),
+            (
+                &[C0, "L 00 28 0C 00 01 H L 00 01 0C 40 H"],
+                &[C0_TEXT, W8, "stop RecvPastEnd 0 1 0\n"],
+                20,
+            ),
+            (
+                &[C0, "L 00 01 0C 20 H L 00 02 08 00 H"],
+                &[C0_TEXT, "00 00 00 00 00 00 00 11\n"],
+                0,
+            ),
+        ],
+    )?;
+    assert_eq!(rt; wrong, None);
     Ok(())
 }
 

@@ -1,20 +1,19 @@
-use Rattle.std.proofs.Common.{rules, subst, List, [], Option}
-use Rattle.board_bus.specs.declared.event.BusEvent.{BusEvent}
-use Rattle.wz_board.specs.Script.{script_lines}
-use Rattle.wz_board.specs.Outcome.{lines_outcome, Ran}
-use Rattle.wz_board.proofs.Scripts.{some_is}
-use Rattle.wz_board.proofs.Shown.{cut_none}
+use Rattle.std.proofs.Common.{sym, ◌∙◌}
+use Rattle.wz_board.proofs.Shown.{plain_shown, fault_shown, own_end, own_fault, end_rises}
 use Rattle.wz_board.proofs.quick.bus_text.Goals as goal
 
-pub returns-in-Ok : goal.returns-in-Ok
-returns-in-Ok g c =
-    let Left : Option (List (List BusEvent)) → Type 0 = λ o. Ran (lines_outcome o) c.bus_checked.result (g.K.Sink.written c.args.out.now) (g.K.Sink.written c.bus_checked.new.out) (g.K.Sink.faults c.args.out.now) (g.K.Sink.faults c.bus_checked.new.out) in
-    subst Left (some_is (script_lines c.args.text.now) [] c.in-Ok.ensures.ok) c.bus_checked.ensures
+pub returns-in_default : goal.returns-in_default
+returns-in_default g c = record {
+  shows = rw (c.ended.ensures.end, c.ended.ensures.past, c.end_of.ensures) (plain_shown c.args.text.now c.script-ran.result.end c.script-ran.result.history.past _ _ c.in_default.not-Fault c.script-ran.ensures.shows);
+  legal = rw c.ended.ensures.past c.script-ran.ensures.legal;
+  own = rw (c.ended.ensures.end, c.end_of.ensures) (own_end c.script-ran.result.end);
+  causes = rw (c.ended.ensures.end, c.end_of.ensures) (end_rises c.script-ran.result.end _ _ c.script-ran.ensures.faults);
+}
 
-pub returns-in-Err-NoMemory : goal.returns-in-Err-NoMemory
-returns-in-Err-NoMemory g c = record {
-  shows = rw (c.ended.ensures.end, c.ended.ensures.past, c.new-in-Err-NoMemory.ensures.past) (cut_none (lines_outcome (script_lines c.args.text.now)) _);
-  legal = search rules;
-  own = search rules;
-  causes = search rules;
+pub returns-in-Fault : goal.returns-in-Fault
+returns-in-Fault g c = record {
+  shows = rw c.refuse_script.ensures.past (fault_shown c.args.text.now c.in-Fault.fault c.refuse_script.result.end c.script-ran.result.history.past _ _ _ (rw c.in-Fault.is at c.script-ran.ensures.shows) c.refuse_script.ensures.adds);
+  legal = rw c.refuse_script.ensures.past c.script-ran.ensures.legal;
+  own = own_fault c.in-Fault.fault c.refuse_script.result.end _ _ c.refuse_script.ensures.adds;
+  causes = rw (c.script-ran.ensures.faults.still (λ e. cc (sym c.in-Fault.is ∙ e))) at c.refuse_script.ensures.faults;
 }

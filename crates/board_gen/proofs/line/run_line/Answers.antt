@@ -1,0 +1,34 @@
+use Rattle.std.proofs.Common.{arith, ◌∙◌}
+use Rattle.chip_sheet.specs.Replay.{told}
+use Rattle.board_gen.specs.Run.{steps_in}
+use Rattle.board_gen.specs.Tokens.{tokens}
+use Rattle.board_gen.proofs.Each.{steps_rest}
+use Rattle.board_gen.proofs.ToldLine.{line_more, line_halts, word_is}
+use Rattle.board_gen.proofs.Weights.{step_light, step_weight, taken_weight}
+use Rattle.board_gen.proofs.line.run_line.Goals as goal
+
+pub returns-in-Err-clause-gives : goal.returns-in-Err-clause-gives
+returns-in-Err-clause-gives c =
+    let is = word_is c.loop-word.rest.now c.in-Some.after.now c.in-Some.word.now c.in-Some.ensures.tokens c.loop-word.invariant.read in
+    line_halts c.loop-word.session.starts _ c.loop-word.session.past _ c.loop-word.rest.now c.in-Some.after.now c.in-Some.word.now is.0 c.in-Err.halt c.loop-word.text.items _
+    (rw is.1 at c.in-Err.ensures.gives) c.in-Some.ensures.tokens is.1 c.loop-word.invariant.read c.loop-word.invariant.so_far
+
+pub loop-word-preserved : goal.loop-word-preserved
+loop-word-preserved c =
+    let is = word_is c.loop-word.rest.now c.in-Some.after.now c.in-Some.word.now c.in-Some.ensures.tokens c.loop-word.invariant.read in
+    let taken = rw is.1 at c.in-Ok.ensures.gives in
+    let light = step_light c.in-Some.word.now is.0 is.1 in
+    let weight = taken_weight c.loop-word.session.starts c.loop-word.session.past _ is.0 taken.answer taken.takes in
+    let some = c.in-Some.ensures.shorter in
+    let within = c.in-Some.ensures.within in
+    let between = c.in-Some.ensures.between in
+    let left = c.loop-word.invariant.left in
+    record {
+      read = steps_rest (tokens c.loop-word.rest.now) c.in-Some.word.now (tokens c.in-Some.after.now) is.0 c.in-Some.ensures.tokens is.1 c.loop-word.invariant.read;
+      running = c.in-Ok.ensures.running;
+      starts = c.in-Ok.ensures.starts ∙ c.loop-word.invariant.starts;
+      so_far = rw c.in-Ok.ensures.starts (line_more c.loop-word.session.starts _ c.loop-word.session.past _ c.loop-word.rest.now c.in-Some.after.now c.in-Some.word.now is.0 c.loop-word.text.items _
+          taken c.in-Some.ensures.tokens is.1 c.loop-word.invariant.read c.loop-word.invariant.so_far);
+      spent = omega (arith, light, weight, some, within, left);
+      left = λ more. omega (arith, light, weight, some, within, between, left, more);
+    }

@@ -1,0 +1,26 @@
+use Rattle.std.proofs.Common.{arith, ap, ◌∙◌}
+use Rattle.chip_sheet.specs.declared.event.Entry.TheVariants.{Link}
+use Rattle.chip_sheet.specs.Past.{link_entry}
+use Rattle.chip_core.specs.Chip.{starts_of}
+use Rattle.board_gen.specs.SessionState.{SessionState}
+use Rattle.board_gen.proofs.Together.{short, together_after}
+use Rattle.board_gen.proofs.session.Session.happen.Goals as goal
+
+pub link-requires-clause-few : goal.link-requires-clause-few
+link-requires-clause-few c =
+    c.short_is_few.ensures (starts_of c.self.inside.chip) c.self.inside.chip c.self.inside.history.past c.self.invariant.stands
+    (short c.self.inside.history.past c.args.self.now.past (ap (λ (s : SessionState). s.past) c.self.view_is) c.self.invariant.weighed c.requires.light)
+
+pub invariant_of-self-2 : goal.invariant_of-self-2
+invariant_of-self-2 c =
+    let starts = starts_of c.self.inside.chip in
+    let past = c.self.inside.history.past in
+    let stands = c.link.ensures.stands starts past c.self.invariant.stands in
+    together_after starts c.link.new.self past (Link c.args.sn (link_entry c.what-what.result)) c.push.new.self (c.starts_are.ensures starts c.link.new.self _ stands) stands
+    (rw c.reserve.ensures.past at c.push.ensures.past) (omega arith) c.self.invariant.weighed (c.push.ensures.limit ∙ c.reserve.ensures.limit ∙ c.self.invariant.limited)
+
+pub returns-clause-starts : goal.returns-clause-starts
+returns-clause-starts c =
+    let starts = starts_of c.self.inside.chip in
+    let stands = c.link.ensures.stands starts c.self.inside.history.past c.self.invariant.stands in
+    c.starts_are.ensures starts c.link.new.self _ stands ∙ ap (λ (s : SessionState). s.starts) c.self.view_is
