@@ -55,7 +55,7 @@ same_if false l = refl
 none_shows : (kind : PeerKind) (s : Said) → shows kind s [] ≡ []
 none_shows kind s = same_if (is_void kind s) []
 
-fed_none : (kind : PeerKind) (say : List Said) → fed_by kind say 0 0 ≡ []
+pub fed_none : (kind : PeerKind) (say : List Said) → fed_by kind say 0 0 ≡ []
 fed_none kind [] = refl
 fed_none kind (s ∷ ss) = none_shows kind s
 

@@ -7,7 +7,7 @@ ghost use Rattle.link_trait.specs.Calls.{Call, Connect, Accept, Write, Read, Sen
 ghost use Rattle.link_script.specs.Acting.{is_serving, begun};
 ghost use Rattle.link_script.specs.Start.{start_of, first_state};
 ghost use Rattle.link_script.specs.Ends.{EndsOf};
-ghost use Rattle.link_script.specs.Links.{played_of};
+ghost use Rattle.link_script.specs.Links.{played_of, IsEight};
 ghost use Rattle.link_script.specs.Play.{Plays, meeting, is_lost, later, risen, server_in, answer_or, acted_by, peers_by};
 
 use crate::actor::Actor;
@@ -15,7 +15,7 @@ use crate::acts;
 use crate::peer::{Connects, Peer};
 use crate::wanted::Wanted;
 use link_trait::{
-    Accepting, Addr, ConnId, Linking, Reading, Receiving, Sending, Shutting, Writing,
+    Accepting, Addr, ConnId, Linking, Links, Reading, Receiving, Routes, Sending, Shutting, Writing,
 };
 use std::alloc::{AllocError, Global};
 
@@ -176,6 +176,7 @@ impl ScriptLinks {
     fn play_write(&mut self, c: ConnId, piece: &[u8]) -> Writing
         requires { c.sn < 8 }
         ensures plays { Plays (played_of self.old) (Write c piece.now) (writing result) (played_of self.new) }
+        ensures eight { IsEight (played_of self.old) }
         ensures fits { WriteFits result piece.now }
     {
         match acts::write(&mut self.actors, c, piece) {
@@ -199,6 +200,7 @@ impl ScriptLinks {
         requires socket { c.sn < 8 }
         requires room { most_read ≤ length buf.old }
         ensures plays { Plays (played_of self.old) (RecvFrom c port (length buf.old)) (receiving result buf.new) (played_of self.new) }
+        ensures eight { IsEight (played_of self.old) }
         ensures fits { ReceiveFits result }
     {
         self.take(c, Wanted::UdpOf(port));
@@ -219,6 +221,7 @@ impl ScriptLinks {
     fn play_read(&mut self, c: ConnId, buf: &mut [u8]) -> Reading
         requires { 0 < length buf.old }
         ensures plays { Plays (played_of self.old) (Read c (length buf.old)) (reading result buf.new) (played_of self.new) }
+        ensures eight { IsEight (played_of self.old) }
         ensures fits { ReadFits result buf.new }
     {
         match acts::read(&mut self.actors, c, buf) {
@@ -238,7 +241,8 @@ impl ScriptLinks {
     /// A connection to an address, whole.
     fn play_connect(&mut self, c: ConnId, to: Addr) -> Linking
         requires { c.sn < 8 }
-        ensures { Plays (played_of self.old) (Connect c to) (linking result) (played_of self.new) }
+        ensures plays { Plays (played_of self.old) (Connect c to) (linking result) (played_of self.new) }
+        ensures eight { IsEight (played_of self.old) }
     {
         let otherwise = acts::refusal(&self.actors, to);
         self.take(c, Wanted::ServerAt(to));
@@ -260,7 +264,8 @@ impl ScriptLinks {
     /// A peer that connects to a port, whole.
     fn play_accept(&mut self, c: ConnId, port: u16) -> Accepting
         requires { c.sn < 8 }
-        ensures { Plays (played_of self.old) (Accept c port) (accepting result) (played_of self.new) }
+        ensures plays { Plays (played_of self.old) (Accept c port) (accepting result) (played_of self.new) }
+        ensures eight { IsEight (played_of self.old) }
     {
         self.take(c, Wanted::ClientOf(port));
         match acts::accept(&mut self.actors, c, port) {
@@ -306,7 +311,8 @@ impl ScriptLinks {
     /// A datagram to an address, whole.
     fn play_send(&mut self, c: ConnId, port: u16, to: Addr, head: &[u8], tail: &[u8]) -> Sending
         requires { c.sn < 8 }
-        ensures { Plays (played_of self.old) (SendTo c port to (head.now ++ tail.now)) (sending result) (played_of self.new) }
+        ensures plays { Plays (played_of self.old) (SendTo c port to (head.now ++ tail.now)) (sending result) (played_of self.new) }
+        ensures eight { IsEight (played_of self.old) }
     {
         self.take(c, Wanted::UdpOf(port));
         match self.send_on(c, port, to, head, tail) {
@@ -327,7 +333,8 @@ impl ScriptLinks {
 
     /// The end of what is sent, whole.
     fn play_shut(&mut self, c: ConnId) -> Shutting
-        ensures { Plays (played_of self.old) (Shut c) (shutting result) (played_of self.new) }
+        ensures plays { Plays (played_of self.old) (Shut c) (shutting result) (played_of self.new) }
+        ensures eight { IsEight (played_of self.old) }
     {
         match acts::shut(&mut self.actors, c) {
             Shutting::Done => Shutting::Done,
@@ -340,8 +347,54 @@ impl ScriptLinks {
 
     /// A connection that is forgotten, whole.
     fn play_drop(&mut self, c: ConnId)
-        ensures { Plays (played_of self.old) (DropConn c) Done (played_of self.new) }
+        ensures plays { Plays (played_of self.old) (DropConn c) Done (played_of self.new) }
+        ensures eight { IsEight (played_of self.old) }
     {
         acts::drop_conn(&mut self.actors, c);
+    }
+}
+
+impl Links for ScriptLinks {
+    ghost use Rattle.std.specs.Prelude.{◌≡◌, ◌<◌, ◌≤◌, ◌++◌, ℕ, true, length};
+    ghost use Rattle.chip_sheet.specs.LinkAnswers.{LinkAnswer, Done};
+    ghost use Rattle.link_script.specs.Play.{shown, Plays};
+    ghost use Rattle.link_script.specs.Links.{played_of};
+
+    ghost shown = { λ l. shown (played_of l) };
+
+    ghost effect = { λ l call answer m. Plays (played_of l) call answer (played_of m) };
+
+    fn set_routes(&mut self, _routes: Routes) {}
+
+    fn connect(&mut self, c: ConnId, to: Addr) -> Linking {
+        self.play_connect(c, to)
+    }
+
+    fn accept(&mut self, c: ConnId, port: u16) -> Accepting {
+        self.play_accept(c, port)
+    }
+
+    fn write(&mut self, c: ConnId, piece: &[u8]) -> Writing {
+        self.play_write(c, piece)
+    }
+
+    fn read(&mut self, c: ConnId, buf: &mut [u8]) -> Reading {
+        self.play_read(c, buf)
+    }
+
+    fn send_to(&mut self, c: ConnId, port: u16, to: Addr, head: &[u8], tail: &[u8]) -> Sending {
+        self.play_send(c, port, to, head, tail)
+    }
+
+    fn recv_from(&mut self, c: ConnId, port: u16, buf: &mut [u8]) -> Receiving {
+        self.play_recv(c, port, buf)
+    }
+
+    fn shut(&mut self, c: ConnId) -> Shutting {
+        self.play_shut(c)
+    }
+
+    fn drop_conn(&mut self, c: ConnId) {
+        self.play_drop(c)
     }
 }
