@@ -1,5 +1,5 @@
 -- What the links show after a call is what the trait of links says of it.
-use Rattle.std.proofs.Common.{◌≡◌, ◌≤◌, ◌<◌, ◌+◌, ◌-◌, ◌^◌, ◌==◌, ◌&&◌, ◌⊎◌, inl, inr, ℕ, zero, suc, Bool, true, false, not, refl, sym, ap, subst, ◌∙◌, List, [], ◌∷◌, ◌++◌, length, set, get_or, min, max, Option, Some, None, if◌then◌else◌, append-nil, nat_le}
+use Rattle.std.proofs.Common.{◌≡◌, ◌≤◌, ◌<◌, ◌+◌, ◌-◌, ◌^◌, ◌==◌, ◌&&◌, ◌⊎◌, inl, inr, ℕ, zero, suc, Bool, true, false, not, refl, sym, ap, subst, ◌∙◌, List, [], ◌∷◌, ◌++◌, length, map, set, get_or, min, max, Option, Some, None, if◌then◌else◌, append-nil, nat_le}
 use Rattle.std.proofs.Common.{rules, arith}
 use Rattle.std.specs.List.{find}
 use Rattle.std.specs.Option.{option_map_or, option_map}
@@ -10,12 +10,14 @@ use Rattle.chip_sheet.specs.declared.event.Addr.{Addr}
 use Rattle.chip_sheet.specs.declared.event.ConnId.{ConnId}
 use Rattle.chip_sheet.specs.LinkAnswers.{LinkAnswer, Done, DoneFrom, DoneWith, DoneBytes, DoneDatagram, NotYet, Refused, TimedOut, End, Failed}
 use Rattle.link_trait.specs.Calls.{Call, SetRoutes, Connect, Accept, Write, Read, SendTo, RecvFrom, Shut, DropConn, same, is_on}
-use Rattle.link_trait.specs.Shown.{Shown, Counts, Makes, Lists, IsBlank, Fails, Waits, Stalls, gives, addresses, gets, moves, makes, ends, added, stalled_at, stalled_after}
+use Rattle.link_trait.specs.Shown.{Shown, Counts, Makes, Lists, IsBlank, IsFresh, Fails, Waits, Stalls, gives, addresses, gets, moves, makes, ends, added, stalled_at, stalled_after}
 use Rattle.link_trait.proofs.Connections.{same_self, same_is}
 use Rattle.link_script.specs.declared.peer.Connects.{Connects}
 use Rattle.link_script.specs.declared.peer.Connects.TheVariants as word
 use Rattle.link_script.specs.Acting.{Acting, fed, peer_answer, peer_after, begun}
 use Rattle.link_script.specs.Play.{Played, Plays, shown, server_in, meeting, is_lost, reaches, lost_after, lost_by, later, peers_by, answer_or, unserved, answer_on, after_on, answer_to, after, risen, has_failed, has_waited, is_there, wanted_by, stalled_by, is_outgoing, suits, refusal, refused_by}
+use Rattle.link_script.specs.Scripts.{Script}
+use Rattle.link_script.specs.Start.{start_of, first_state}
 use Rattle.link_script.proofs.Goings.{Goes, peer_goes, Made, peer_made, no_both}
 use Rattle.link_script.proofs.Servers.{Newly, other_met, mine_met, mine_after, other_after, fed_start}
 
@@ -433,3 +435,15 @@ keeps s t (SendTo c port to body) a h k p = keeps_on s t c (SendTo c port to bod
 keeps s t (RecvFrom c port count) a h k p = keeps_on s t c (RecvFrom c port count) a (λ d. refl) h k p.answered p.left
 keeps s t (Shut c) a h k p = keeps_on s t c (Shut c) a (λ d. refl) h k p.answered p.left
 keeps s t (DropConn c) a h k p = keeps_on s t c (DropConn c) a (λ d. refl) h k p.answered p.left
+
+-- Before any call no peer serves a connection.
+none_starts : (scripts : List Script) (c : ConnId) → server_in (map start_of scripts) c ≡ None
+none_starts [] c = refl
+none_starts (script ∷ scripts) c = none_starts scripts c
+
+pub fresh_start : (scripts : List Script) → IsFresh (shown (first_state scripts))
+fresh_start scripts c h =
+    absurd (none_told (λ p. p.tells) (server_in (map start_of scripts) c) (none_starts scripts c) h)
+
+pub fresh_is : (s : Played) (scripts : List Script) → s ≡ first_state scripts → IsFresh (shown s)
+fresh_is s scripts e = subst (λ x. IsFresh (shown x)) (sym e) (fresh_start scripts)

@@ -8,6 +8,8 @@ ghost use Rattle.link_script.specs.Acting.{is_serving, begun};
 ghost use Rattle.link_script.specs.Start.{start_of, first_state};
 ghost use Rattle.link_script.specs.Ends.{EndsOf};
 ghost use Rattle.link_script.specs.Links.{played_of, IsEight};
+ghost use Rattle.link_trait.specs.Shown.{IsFresh};
+ghost use Rattle.link_script.specs.Play as play;
 ghost use Rattle.link_script.specs.Play.{Plays, meeting, is_lost, later, risen, server_in, answer_or, acted_by, peers_by};
 
 use crate::actor::Actor;
@@ -87,7 +89,8 @@ impl ScriptLinks {
     /// # Errors
     /// Out of memory alone. No call takes memory.
     pub fn new(alloc: Global, peers: Vec<Peer>) -> Result<ScriptLinks, AllocError>
-        ensures { IfOk result (λ links. played_of links ≡ first_state peers.items) }
+        ensures start { IfOk result (λ links. played_of links ≡ first_state peers.items) }
+        ensures fresh { IfOk result (λ links. IsFresh (play.shown (played_of links))) }
     {
         Ok(ScriptLinks {
             actors: actors_of(alloc, peers)?,
