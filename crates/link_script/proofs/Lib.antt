@@ -1,0 +1,5 @@
+mod Hearing
+mod Changes
+mod Goings
+mod Servers
+mod Shows

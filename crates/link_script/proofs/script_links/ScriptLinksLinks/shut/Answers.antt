@@ -1,0 +1,13 @@
+use Rattle.std.proofs.Common.{length, ◌++◌}
+use Rattle.link_trait.specs.Calls.{Shut}
+use Rattle.link_script.specs.Links.{played_of}
+use Rattle.link_script.proofs.Shows.{keeps}
+use Rattle.link_script.proofs.script_links.ScriptLinksLinks.shut.Goals as goal
+
+pub returns-clause-makes : goal.returns-clause-makes
+returns-clause-makes c =
+    (keeps (played_of c.args.self.now) (played_of c.play_shut.new.self) (Shut c.args.c) _ tt tt c.play_shut.ensures.plays).1
+
+pub returns-clause-lists : goal.returns-clause-lists
+returns-clause-lists c =
+    (keeps (played_of c.args.self.now) (played_of c.play_shut.new.self) (Shut c.args.c) _ tt tt c.play_shut.ensures.plays).2
