@@ -1,6 +1,5 @@
-pub mod Front
+mod Front
 mod IdleAnswer
 mod LegalPlaces
-pub mod SentStands
-pub mod MadeKept
-pub mod Destination
+mod SentStands
+mod MadeKept

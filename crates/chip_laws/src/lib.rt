@@ -4,7 +4,6 @@
 //! `chip_rows`.
 #![tactic(auto)]
 
-pub mod addressed;
 pub mod answers;
 pub mod kept;
 pub mod legal;

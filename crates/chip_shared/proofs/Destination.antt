@@ -28,18 +28,18 @@ use Rattle.chip_sheet.proofs.MadeLaws.{udp_next}
 abbrev IsLast : List Addr → Addr → Type 0
 IsLast all to = (before : List Addr) × (all ≡ before ++ to ∷ [])
 
-udp_from : (at : Life) (why : Cause) → is_udp (life_after at why).status ≡ true → (((life_after at why).lives ≡ at.lives) × (is_udp at.status ≡ true)) ⊎ ((life_after at why).lives ≡ at.lives + 1)
+pub udp_from : (at : Life) (why : Cause) → is_udp (life_after at why).status ≡ true → (((life_after at why).lives ≡ at.lives) × (is_udp at.status ≡ true)) ⊎ ((life_after at why).lives ≡ at.lives + 1)
 udp_from at why =
     let after = next at.status why (facts_of why at) in
     cond_both (begins why at.status) (new_life at after) (lives_on at why after)
     (λ (now : Life). is_udp now.status ≡ true → ((now.lives ≡ at.lives) × (is_udp at.status ≡ true)) ⊎ (now.lives ≡ at.lives + 1))
     (λ new h. inr refl) (λ old h. inl (refl, udp_next at.status why (facts_of why at) old h))
 
-send_cases : (why : Cause) → (why ≡ because.Send) ⊎ (why ≡ because.Send → ⊥)
+pub send_cases : (why : Cause) → (why ≡ because.Send) ⊎ (why ≡ because.Send → ⊥)
 send_cases because.Send = inl refl
 send_cases why = inr (λ h. cc)
 
-udp_open : (at : Status) → is_udp at ≡ true → is_open at ≡ true
+pub udp_open : (at : Status) → is_udp at ≡ true → is_open at ≡ true
 udp_open Udp h = refl
 udp_open at h = cc
 
@@ -57,7 +57,7 @@ keeps_no because.Connect Init udp other = cc
 keeps_no because.Connect at udp other = refl
 keeps_no why at udp other = refl
 
-destinations_same : (starts : Starts) (past : Past) (n l : ℕ) (why : Cause) (before : List Addr) → (why ≡ because.Send → ⊥) → destinations_by starts past n l why before ≡ before
+pub destinations_same : (starts : Starts) (past : Past) (n l : ℕ) (why : Cause) (before : List Addr) → (why ≡ because.Send → ⊥) → destinations_by starts past n l why before ≡ before
 destinations_same starts past n l because.Send before other = absurd (other refl)
 destinations_same starts past n l why before other = refl
 
@@ -70,7 +70,7 @@ taken_less past (Link m what) n l = by (is_of past m n l) (taken past n l) (take
     by true t k = omega arith
     by false t k = omega arith
 
-range_long : (f : ℕ → ℕ) (at count : ℕ) → length (bytes_from f at count) ≡ count
+pub range_long : (f : ℕ → ℕ) (at count : ℕ) → length (bytes_from f at count) ≡ count
 range_long f at zero = refl
 range_long f at (suc count) = ap suc (range_long f (at + 1) count)
 
@@ -79,7 +79,7 @@ flies true x h = h
 flies false x h = absurd (omega (arith, h))
 
 -- What is in flight of the present life after an entry.
-flies_now : (starts : Starts) (past : Past) (entry : Entry) (n l : ℕ) → lives (entry ∷ past) n ≡ l → 0 < flight starts (entry ∷ past) n → 0 < length (sent starts (entry ∷ past) n l) - taken (entry ∷ past) n l
+pub flies_now : (starts : Starts) (past : Past) (entry : Entry) (n l : ℕ) → lives (entry ∷ past) n ≡ l → 0 < flight starts (entry ∷ past) n → 0 < length (sent starts (entry ∷ past) n l) - taken (entry ∷ past) n l
 flies_now starts past entry n l same h =
     subst (λ (k : ℕ). 0 < length (sent starts (entry ∷ past) n k) - taken (entry ∷ past) n k) same
     (flies (is_open (status (entry ∷ past) n)) (length (sent starts (entry ∷ past) n (lives (entry ∷ past) n)) - taken (entry ∷ past) n (lives (entry ∷ past) n)) h)
@@ -89,12 +89,12 @@ udp_idle : (udp : Bool) (fl : ℕ) → (true && udp && ltb 0 fl) ≡ false → u
 udp_idle true fl h k = let none = ltb-false 0 fl h in omega (arith, none)
 udp_idle false fl h k = cc
 
-no_link_sends : (b : Bool) (what : LinkEntry) → cond b (happening what) because.Nothing ≡ because.Send → ⊥
+pub no_link_sends : (b : Bool) (what : LinkEntry) → cond b (happening what) because.Nothing ≡ because.Send → ⊥
 no_link_sends true Linked h = cc
 no_link_sends true what h = cc
 no_link_sends false what h = cc
 
-idle_before : (starts : Starts) (past : Past) (entry : Entry) (n : ℕ) → Legal starts (entry ∷ past) → cause past n entry ≡ because.Send → is_udp (status past n) ≡ true → flight starts past n ≡ 0
+pub idle_before : (starts : Starts) (past : Past) (entry : Entry) (n : ℕ) → Legal starts (entry ∷ past) → cause past n entry ≡ because.Send → is_udp (status past n) ≡ true → flight starts past n ≡ 0
 idle_before starts past (Bus e a) n legal why udp =
     let row = (free_command starts past n (access past e) 0x20 (send_access past n (access past e) why) legal.0.0).busy in
     udp_idle (is_udp (status past n)) (flight starts past n) (none_there _ (SendBusy n) row) udp
@@ -102,7 +102,7 @@ idle_before starts past (Link m what) n legal why udp = absurd (no_link_sends (e
 idle_before starts past Rest n legal why udp = cc
 
 -- A SEND after which something is in flight is a datagram's.
-sent_now : (starts : Starts) (past : Past) (entry : Entry) (n : ℕ) → cause past n entry ≡ because.Send → is_udp (status past n) ≡ true
+pub sent_now : (starts : Starts) (past : Past) (entry : Entry) (n : ℕ) → cause past n entry ≡ because.Send → is_udp (status past n) ≡ true
     → sent starts (entry ∷ past) n (lives past n) ≡ sent starts past n (lives past n) ++ range starts past n (length (sent starts past n (lives past n)))
 sent_now starts past entry n why udp =
     let s = sent starts past n (lives past n) in

@@ -1,0 +1,10 @@
+pub mod State
+pub mod Tied
+pub mod Sound
+pub mod Asking
+pub mod Calling
+pub mod Entries
+pub mod Causes
+pub mod Sweeping
+pub mod Draining
+pub mod Closing
