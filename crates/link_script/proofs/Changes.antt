@@ -1,7 +1,7 @@
 -- The first member of a list that passes a test, and the list in which it is changed.
-use Rattle.std.proofs.Common.{◌≡◌, ◌<◌, ◌+◌, ℕ, zero, suc, Bool, true, false, not, cond, refl, sym, ap, subst, ◌∙◌, List, [], ◌∷◌, length, set, get_or, Option, Some, None, if◌then◌else◌, nat_lt}
-use Rattle.std.proofs.Common.{rules, arith}
-use Rattle.std.specs.List.{find, position, position_or_len}
+use Rattle.std.proofs.Common.{◌≡◌, ◌<◌, ℕ, zero, suc, Bool, true, false, refl, sym, ap, ◌∙◌, List, [], ◌∷◌, length, set, get_or, Some, None}
+use Rattle.std.proofs.Common.{arith}
+use Rattle.std.specs.List.{find, position}
 use Rattle.std.proofs.lemmas.List.Quantifiers.{position-Some}
 use Rattle.link_script.specs.Acting.{Acting}
 use Rattle.link_trait.specs.Calls.{Call}
@@ -11,7 +11,6 @@ use Rattle.link_script.specs.Acting.{peer_after, peer_answer, is_serving, begun}
 use Rattle.link_script.specs.Play.{Played, acted_by, lost_after, change_first, server_in, peers_by, answer_or, met_by, refused_by, refusal, suits}
 use Rattle.link_script.specs.declared.wanted.Wanted.{Wanted}
 use Rattle.link_script.specs.Start.{start_of}
-use Rattle.link_script.specs.Scripts.{Script}
 use Rattle.link_script.specs.declared.peer.PeerKind.TheVariants.{Client}
 use Rattle.link_script.specs.declared.peer.Connects.TheVariants.{Fine}
 use Rattle.std.proofs.lemmas.Grind.{common_steps}

@@ -1,13 +1,12 @@
 -- What a call on a peer keeps and adds.
-use Rattle.std.proofs.Common.{◌≡◌, ◌≤◌, ◌<◌, ◌+◌, ◌==◌, ◌&&◌, ◌⊎◌, inl, inr, ℕ, Bool, true, false, not, refl, sym, ap, subst, ◌∙◌, List, [], ◌∷◌, ◌++◌, length, take, min, Option, Some, None, if◌then◌else◌, append-nil}
-use Rattle.std.proofs.Common.{rules, arith}
+use Rattle.std.proofs.Common.{◌≡◌, ◌==◌, ◌⊎◌, inl, inr, ℕ, Bool, true, false, not, refl, sym, ap, subst, ◌∙◌, List, [], ◌∷◌, ◌++◌, length, take, Option, Some, None, if◌then◌else◌, append-nil}
+use Rattle.std.proofs.Common.{arith}
 use Rattle.chip_sheet.specs.declared.event.Addr.{Addr}
 use Rattle.chip_sheet.specs.declared.event.ConnId.{ConnId}
 use Rattle.chip_sheet.specs.LinkAnswers.{LinkAnswer, Done, DoneFrom, DoneWith, DoneBytes, DoneDatagram, NotYet, End, Failed}
 use Rattle.chip_sheet.specs.Windows.{most_read}
 use Rattle.link_trait.specs.Calls.{Call, SetRoutes, Connect, Accept, Write, Read, SendTo, RecvFrom, Shut, DropConn, same, is_on}
 use Rattle.link_trait.specs.Shown.{gives, addresses, gets, makes, ends}
-use Rattle.link_script.specs.Scripts.{Said, Script}
 use Rattle.link_script.specs.Acting.{Acting, fed, front, is_ready, part, countable, has_ended, moved, write_after, send_after, send_answer, takes_whole, takes_of, left_by, read_after, read_answer, read_from, receive_answer, receive_from, counted, fails, counted_answer, counted_after, peer_answer, peer_after, wrote, is_udp, entry, used_after}
 use Rattle.link_script.proofs.Hearing.{fed_moved}
 

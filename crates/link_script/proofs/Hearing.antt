@@ -1,12 +1,11 @@
 -- What was read of a peer, after one more read.
-use Rattle.std.proofs.Common.{◌≡◌, ◌≤◌, ◌<◌, ◌+◌, ◌-◌, ◌^◌, ◌==◌, ℕ, zero, suc, Bool, true, false, not, refl, sym, ap, ◌∙◌, List, [], ◌∷◌, ◌++◌, length, take, drop, get_or, min, Option, Some, None, if◌then◌else◌, append_assoc, append-nil, zero-add, length-append, length-drop, length-take}
-use Rattle.std.proofs.Common.{rules, arith}
-use Rattle.std.proofs.lemmas.Grind.{common_steps}
+use Rattle.std.proofs.Common.{◌≡◌, ◌≤◌, ◌<◌, ◌+◌, ◌-◌, ◌^◌, ◌==◌, ℕ, zero, suc, Bool, true, false, not, refl, sym, ap, ◌∙◌, List, [], ◌∷◌, ◌++◌, length, take, drop, get_or, min, Option, Some, if◌then◌else◌, append_assoc, append-nil, zero-add, length-append, length-drop, length-take}
+use Rattle.std.proofs.Common.{arith}
 use Rattle.std.specs.List.{position}
 use Rattle.std.proofs.lemmas.List.{take_all, take_rest, get_or-drop}
 use Rattle.std.proofs.lemmas.List.Quantifiers.{position-Some}
 use Rattle.link_script.specs.declared.peer.PeerKind.{PeerKind}
-use Rattle.link_script.specs.Scripts.{Said, Script}
+use Rattle.link_script.specs.Scripts.{Said}
 use Rattle.link_script.specs.Acting.{Acting, is_void, no_chunk, front, chunk_at, read_of, is_udp, part, moved_to, moved, fed_by, fed}
 
 -- lists

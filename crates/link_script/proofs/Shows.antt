@@ -1,24 +1,23 @@
 -- What the links show after a call is what the trait of links says of it.
-use Rattle.std.proofs.Common.{◌≡◌, ◌≤◌, ◌<◌, ◌+◌, ◌-◌, ◌^◌, ◌==◌, ◌&&◌, ◌⊎◌, inl, inr, ℕ, zero, suc, Bool, true, false, not, refl, sym, ap, subst, ◌∙◌, List, [], ◌∷◌, ◌++◌, length, map, set, get_or, min, max, Option, Some, None, if◌then◌else◌, append-nil, nat_le}
-use Rattle.std.proofs.Common.{rules, arith}
-use Rattle.std.specs.List.{find}
+use Rattle.std.proofs.Common.{◌≡◌, ◌<◌, ◌==◌, ◌&&◌, ◌⊎◌, inl, inr, ℕ, zero, suc, Bool, true, false, not, refl, sym, ap, subst, ◌∙◌, List, [], ◌∷◌, ◌++◌, length, map, set, get_or, Option, Some, None, if◌then◌else◌, append-nil, nat_le}
+use Rattle.std.proofs.Common.{arith}
 use Rattle.std.specs.Option.{option_map_or, option_map}
 use Rattle.std.proofs.lemmas.List.{get_or-set_same, get_or-set_other}
 use Rattle.std.proofs.lemmas.Bool.{cases_eq}
 use Rattle.wz_base.specs.Outside.{RisesOnly}
 use Rattle.chip_sheet.specs.declared.event.Addr.{Addr}
 use Rattle.chip_sheet.specs.declared.event.ConnId.{ConnId}
-use Rattle.chip_sheet.specs.LinkAnswers.{LinkAnswer, Done, DoneFrom, DoneWith, DoneBytes, DoneDatagram, NotYet, Refused, TimedOut, End, Failed}
+use Rattle.chip_sheet.specs.LinkAnswers.{LinkAnswer, Done, DoneFrom, NotYet, Failed}
 use Rattle.link_trait.specs.Calls.{Call, SetRoutes, Connect, Accept, Write, Read, SendTo, RecvFrom, Shut, DropConn, same, is_on}
 use Rattle.link_trait.specs.Shown.{Shown, Counts, Makes, Lists, IsBlank, IsFresh, Fails, Waits, Stalls, gives, addresses, gets, moves, makes, ends, added, stalled_at, stalled_after}
 use Rattle.link_trait.proofs.Connections.{same_self, same_is}
 use Rattle.link_script.specs.declared.peer.Connects.{Connects}
 use Rattle.link_script.specs.declared.peer.Connects.TheVariants as word
-use Rattle.link_script.specs.Acting.{Acting, fed, peer_answer, peer_after, begun}
-use Rattle.link_script.specs.Play.{Played, Plays, shown, server_in, meeting, is_lost, reaches, lost_after, lost_by, later, peers_by, answer_or, unserved, answer_on, after_on, answer_to, after, risen, has_failed, has_waited, is_there, wanted_by, stalled_by, is_outgoing, suits, refusal, refused_by}
+use Rattle.link_script.specs.Acting.{Acting, fed, peer_answer, peer_after}
+use Rattle.link_script.specs.Play.{Played, Plays, shown, server_in, meeting, is_lost, reaches, lost_after, lost_by, later, peers_by, answer_or, unserved, answer_on, after_on, risen, has_failed, has_waited, is_there, wanted_by, stalled_by, is_outgoing, refusal, refused_by}
 use Rattle.link_script.specs.Scripts.{Script}
 use Rattle.link_script.specs.Start.{start_of, first_state}
-use Rattle.link_script.proofs.Goings.{Goes, peer_goes, Made, peer_made, no_both}
+use Rattle.link_script.proofs.Goings.{peer_goes, peer_made, no_both}
 use Rattle.link_script.proofs.Servers.{Newly, other_met, mine_met, mine_after, other_after, fed_start}
 
 -- the counts

@@ -1,5 +1,5 @@
 -- How far a peer is, as callers see it.
-use Rattle.std.specs.Prelude.{◌≡◌, ℕ, ◌-◌, ◌^◌, min, length, Option, Some, None}
+use Rattle.std.specs.Prelude.{◌≡◌, ◌-◌, ◌^◌, min, length, Option, Some, None}
 use Rattle.link_script.specs.declared.script_links.PeerEnd.{PeerEnd}
 use Rattle.link_script.specs.Acting.{Acting, fed, faults_of}
 

@@ -1,5 +1,5 @@
 -- What an actor keeps, and what it stands for.
-use Rattle.std.specs.Prelude.{◌≡◌, ◌≤◌, ℕ, ◌-◌, ◌^◌, min, length, drop, get_or, vec_len, vec_capacity}
+use Rattle.std.specs.Prelude.{◌≡◌, ◌≤◌, ◌-◌, ◌^◌, min, length, drop, get_or, vec_len, vec_capacity}
 use Rattle.link_script.specs.declared.actor.Actor.TheInside.{Inside}
 use Rattle.link_script.specs.Acting.{Acting, no_chunk, most_datagrams, fed}
 

@@ -1,5 +1,5 @@
 -- A peer before any call.
-use Rattle.std.specs.Prelude.{ℕ, false, List, [], map, replicate, None}
+use Rattle.std.specs.Prelude.{false, List, [], map, replicate, None}
 use Rattle.link_script.specs.Scripts.{Script}
 use Rattle.link_script.specs.Acting.{Acting}
 use Rattle.link_script.specs.Play.{Played}

@@ -276,11 +276,19 @@ enum Ask {
 }
 
 fn connect(links: &mut ScriptLinks, c: ConnId, to: Addr) -> Option<Linking> {
-    if c.sn < 8 { Some(links.connect(c, to)) } else { None }
+    if c.sn < 8 {
+        Some(links.connect(c, to))
+    } else {
+        None
+    }
 }
 
 fn accept(links: &mut ScriptLinks, c: ConnId, port: u16) -> Option<Accepting> {
-    if c.sn < 8 { Some(links.accept(c, port)) } else { None }
+    if c.sn < 8 {
+        Some(links.accept(c, port))
+    } else {
+        None
+    }
 }
 
 fn send_to(
@@ -291,15 +299,14 @@ fn send_to(
     head: &[u8],
     tail: &[u8],
 ) -> Option<Sending> {
-    if c.sn < 8 { Some(links.send_to(c, port, to, head, tail)) } else { None }
+    if c.sn < 8 {
+        Some(links.send_to(c, port, to, head, tail))
+    } else {
+        None
+    }
 }
 
-fn recv_from(
-    links: &mut ScriptLinks,
-    c: ConnId,
-    port: u16,
-    buf: &mut [u8],
-) -> Option<Receiving> {
+fn recv_from(links: &mut ScriptLinks, c: ConnId, port: u16, buf: &mut [u8]) -> Option<Receiving> {
     if c.sn < 8 && buf.len() >= 1472 {
         Some(links.recv_from(c, port, buf))
     } else {

@@ -1,4 +1,4 @@
-use Rattle.std.proofs.Common.{◌≡◌, ◌∙◌, ap}
+use Rattle.std.proofs.Common.{◌∙◌, ap}
 use Rattle.link_script.specs.Scripts.{Script}
 use Rattle.link_script.proofs.Hearing.{front_is}
 use Rattle.link_script.proofs.actor.first_full.Goals as goal

@@ -1,6 +1,5 @@
-use Rattle.std.proofs.Common.{refl, ap, length, ◌++◌}
-use Rattle.chip_sheet.specs.LinkAnswers.{Done, DoneFrom, NotYet}
-use Rattle.link_trait.specs.Calls.{Connect, Accept, Write, Read, SendTo, RecvFrom, Shut, linking}
+use Rattle.std.proofs.Common.{refl}
+use Rattle.link_trait.specs.Calls.{Connect, linking}
 use Rattle.link_script.proofs.Changes.{answer_there}
 use Rattle.link_script.proofs.acts.connect.Goals as goal
 

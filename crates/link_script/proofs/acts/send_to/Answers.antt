@@ -1,6 +1,6 @@
-use Rattle.std.proofs.Common.{refl, ap, length, ◌++◌}
-use Rattle.chip_sheet.specs.LinkAnswers.{Done, DoneFrom, NotYet}
-use Rattle.link_trait.specs.Calls.{Connect, Accept, Write, Read, SendTo, RecvFrom, Shut, linking}
+use Rattle.std.proofs.Common.{◌++◌}
+use Rattle.chip_sheet.specs.LinkAnswers.{Done}
+use Rattle.link_trait.specs.Calls.{SendTo}
 use Rattle.link_script.proofs.Changes.{answer_at}
 use Rattle.link_script.proofs.acts.send_to.Goals as goal
 

@@ -1,4 +1,4 @@
-use Rattle.std.proofs.Common.{rules, refl}
+use Rattle.std.proofs.Common.{rules}
 use Rattle.link_script.proofs.Hearing.{heard_none}
 use Rattle.link_script.proofs.actor.Actor.begin.Goals as goal
 

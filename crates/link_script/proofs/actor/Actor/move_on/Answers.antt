@@ -1,4 +1,4 @@
-use Rattle.std.proofs.Common.{◌≡◌, ◌≤◌, ◌+◌, ◌-◌, ◌^◌, ℕ, ap, subst, sym, min, length, Some, rules}
+use Rattle.std.proofs.Common.{◌≡◌, ◌-◌, ◌^◌, subst, sym, min, length, Some}
 use Rattle.link_script.specs.Acting.{Acting, front, moved, fed, part}
 use Rattle.link_script.specs.Kept.{acting_of}
 use Rattle.link_script.proofs.Hearing.{kept_at, kept_next}

@@ -1,5 +1,4 @@
-use Rattle.std.proofs.Common.{rules, ◌≡◌, ◌≤◌, ℕ, arith, length, refl}
-use Rattle.link_script.specs.Acting.{fed}
+use Rattle.std.proofs.Common.{rules}
 use Rattle.link_script.proofs.Hearing.{heard_none}
 use Rattle.link_script.proofs.actor.Actor.new.Goals as goal
 

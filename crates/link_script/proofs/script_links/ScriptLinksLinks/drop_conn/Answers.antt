@@ -1,4 +1,3 @@
-use Rattle.std.proofs.Common.{length, ◌++◌}
 use Rattle.link_trait.specs.Calls.{DropConn}
 use Rattle.link_script.specs.Links.{played_of}
 use Rattle.link_script.proofs.Shows.{keeps}

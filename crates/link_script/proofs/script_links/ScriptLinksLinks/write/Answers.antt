@@ -1,4 +1,4 @@
-use Rattle.std.proofs.Common.{length, ◌++◌, arith}
+use Rattle.std.proofs.Common.{arith}
 use Rattle.link_trait.specs.Calls.{Write}
 use Rattle.link_script.specs.Links.{played_of}
 use Rattle.link_script.proofs.Shows.{keeps}
