@@ -6,6 +6,8 @@ use chip_shared::closing::Closing;
 use chip_shared::shared::{LinkDid, Shared, StepEnd};
 use chip_sheet::event::{Addr, BusAnswer, BusEvent};
 use link_script::{Chunk, Connects, Peer, PeerKind, ScriptLinks};
+use std::alloc::Global;
+use std::process::Abort;
 
 /// What the destination registers hold after power-on, where the peer of each row waits.
 const NOWHERE: Addr = Addr {
@@ -25,8 +27,7 @@ const SEND: [u8; 4] = [0x00, 0x01, 0x0C, 0x20];
 const RECV: [u8; 4] = [0x00, 0x01, 0x0C, 0x40];
 
 /// A server at that address, which takes so many bytes at each write and says these at once.
-fn server(rt: &HostRuntime, takes: &[u32], says: &[u8]) -> Peer {
-    let alloc = rt.alloc();
+fn server(rt: &impl Abort, alloc: Global, takes: &[u32], says: &[u8]) -> Peer {
     let mut say = Vec::new(alloc);
     if !says.is_empty() {
         say.push(Chunk {
@@ -49,32 +50,46 @@ fn server(rt: &HostRuntime, takes: &[u32], says: &[u8]) -> Peer {
 }
 
 /// A chip with these starts, a history with this limit, and that peer.
-fn board(rt: &HostRuntime, starts: (u16, u16), limit: u64, peer: Peer) -> Shared<ScriptLinks> {
-    let alloc = rt.alloc();
+fn board(
+    rt: &impl Abort,
+    alloc: Global,
+    starts: (u16, u16),
+    limit: u64,
+    peer: Peer,
+) -> Shared<ScriptLinks> {
     assert!(rt; 1 <= limit && limit <= 67_108_864);
     let chip = Chip::new(alloc, starts.0, starts.1).expect(rt, "memory");
     let mut peers = Vec::new(alloc);
     peers.push(peer).expect(rt, "memory");
-    let links = ScriptLinks::new(peers).expect(rt, "memory");
+    let links = ScriptLinks::new(alloc, peers).expect(rt, "memory");
     Shared::new(chip, History::new(alloc, limit), links)
 }
 
 /// A frame of these bytes: the chip's answers to them are these.
-fn frame(rt: &HostRuntime, shared: &mut Shared<ScriptLinks>, bytes: &[u8], wanted: &[u8]) {
-    assert_eq!(rt; shared.bus_step(BusEvent::Select(true)), Ok(BusAnswer::Done));
+fn frame(rt: &impl Abort, shared: &mut Shared<ScriptLinks>, bytes: &[u8], wanted: &[u8]) {
+    assert_eq!(rt;
+        shared.bus_step(BusEvent::Select(true)),
+        Ok(BusAnswer::Done)
+    );
     for (byte, want) in bytes.iter().zip(wanted) {
-        assert_eq!(rt; shared.bus_step(BusEvent::Byte(*byte)), Ok(BusAnswer::Out(*want)));
+        assert_eq!(rt;
+            shared.bus_step(BusEvent::Byte(*byte)),
+            Ok(BusAnswer::Out(*want))
+        );
     }
-    assert_eq!(rt; shared.bus_step(BusEvent::Select(false)), Ok(BusAnswer::Done));
+    assert_eq!(rt;
+        shared.bus_step(BusEvent::Select(false)),
+        Ok(BusAnswer::Done)
+    );
 }
 
 /// A frame that writes: each byte is answered 00.
-fn write(rt: &HostRuntime, shared: &mut Shared<ScriptLinks>, bytes: &[u8]) {
+fn write(rt: &impl Abort, shared: &mut Shared<ScriptLinks>, bytes: &[u8]) {
     frame(rt, shared, bytes, &[0; 16]);
 }
 
 /// Connects socket 0 to the peer.
-fn connect(rt: &HostRuntime, shared: &mut Shared<ScriptLinks>) {
+fn connect(rt: &impl Abort, shared: &mut Shared<ScriptLinks>) {
     for bytes in &CONNECT {
         write(rt, shared, bytes);
     }
@@ -83,9 +98,19 @@ fn connect(rt: &HostRuntime, shared: &mut Shared<ScriptLinks>) {
 
 #[test]
 fn peer_is_given_what_wraps_in_the_buffer(rt: HostRuntime) {
-    let mut shared = board(&rt, (65_534, 0), 10_000, server(&rt, &[], &[]));
+    let mut shared = board(
+        &rt,
+        rt.alloc(),
+        (65_534, 0),
+        10_000,
+        server(&rt, rt.alloc(), &[], &[]),
+    );
     connect(&rt, &mut shared);
-    write(&rt, &mut shared, &[0xFF, 0xFE, 0x14, 0x01, 0x02, 0x03, 0x04]);
+    write(
+        &rt,
+        &mut shared,
+        &[0xFF, 0xFE, 0x14, 0x01, 0x02, 0x03, 0x04],
+    );
     write(&rt, &mut shared, &[0x00, 0x24, 0x0C, 0x00, 0x02]);
     write(&rt, &mut shared, &SEND);
     assert_eq!(rt; shared.sweep(), Ok(()));
@@ -95,16 +120,26 @@ fn peer_is_given_what_wraps_in_the_buffer(rt: HostRuntime) {
     let (_, history, links) = shared.into_parts();
     assert!(rt; calls < history.len());
     match links.peer(0) {
-        Some(peer) => assert_eq!(rt; peer.given, &[0x01, 0x02, 0x03, 0x04]),
+        Some(peer) => assert_eq!(rt; peer.given, [0x01, 0x02, 0x03, 0x04].as_slice()),
         None => assert!(rt; false),
     }
 }
 
 #[test]
 fn peer_takes_in_parts(rt: HostRuntime) {
-    let mut shared = board(&rt, (0, 0), 10_000, server(&rt, &[2, 0, 3], &[]));
+    let mut shared = board(
+        &rt,
+        rt.alloc(),
+        (0, 0),
+        10_000,
+        server(&rt, rt.alloc(), &[2, 0, 3], &[]),
+    );
     connect(&rt, &mut shared);
-    write(&rt, &mut shared, &[0x00, 0x00, 0x14, 0x01, 0x02, 0x03, 0x04, 0x05]);
+    write(
+        &rt,
+        &mut shared,
+        &[0x00, 0x00, 0x14, 0x01, 0x02, 0x03, 0x04, 0x05],
+    );
     write(&rt, &mut shared, &[0x00, 0x24, 0x0C, 0x00, 0x05]);
     write(&rt, &mut shared, &SEND);
     let interrupts = [0x00, 0x02, 0x08, 0x00];
@@ -117,7 +152,13 @@ fn peer_takes_in_parts(rt: HostRuntime) {
 
 #[test]
 fn peer_fills_the_buffer(rt: HostRuntime) {
-    let mut shared = board(&rt, (0, 0), 10_000, server(&rt, &[], &[0x55; 3000]));
+    let mut shared = board(
+        &rt,
+        rt.alloc(),
+        (0, 0),
+        10_000,
+        server(&rt, rt.alloc(), &[], &[0x55; 3000]),
+    );
     connect(&rt, &mut shared);
     let received = [0x00, 0x26, 0x08, 0x00, 0x00];
     assert_eq!(rt; shared.link_step(1), Ok(LinkDid::Did(1)));
@@ -133,9 +174,21 @@ fn peer_fills_the_buffer(rt: HostRuntime) {
 
 #[test]
 fn history_of_one_event(rt: HostRuntime) {
-    let mut shared = board(&rt, (0, 0), 1, server(&rt, &[], &[]));
-    assert_eq!(rt; shared.bus_step(BusEvent::Select(true)), Ok(BusAnswer::Done));
-    assert_eq!(rt; shared.bus_step(BusEvent::Select(true)), Err(StepEnd::TraceFull));
+    let mut shared = board(
+        &rt,
+        rt.alloc(),
+        (0, 0),
+        1,
+        server(&rt, rt.alloc(), &[], &[]),
+    );
+    assert_eq!(rt;
+        shared.bus_step(BusEvent::Select(true)),
+        Ok(BusAnswer::Done)
+    );
+    assert_eq!(rt;
+        shared.bus_step(BusEvent::Select(true)),
+        Err(StepEnd::TraceFull)
+    );
     assert_eq!(rt; shared.link_step(0), Err(StepEnd::TraceFull));
     assert_eq!(rt; shared.calls(), 0);
 }

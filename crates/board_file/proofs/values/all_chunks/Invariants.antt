@@ -1,6 +1,6 @@
 use Rattle.std.proofs.Common.{◌≡◌, drop}
 use Rattle.board_gen.specs.Tokens.{each}
-use Rattle.board_gen.proofs.Each.{with_front}
+use Rattle.board_file.proofs.Each.{with_front}
 use Rattle.board_file.specs.Values.{chunk}
 use Rattle.board_file.specs.Views.{texts, bytes_of}
 use Rattle.board_file.proofs.values.all_chunks.Given as goal

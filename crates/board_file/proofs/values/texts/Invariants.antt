@@ -2,7 +2,7 @@ use Rattle.std.proofs.Common.{◌≡◌, map, drop}
 use Rattle.toml.specs.Data.{as_str}
 use Rattle.toml.specs.View.{view}
 use Rattle.board_gen.specs.Tokens.{each}
-use Rattle.board_gen.proofs.Each.{with_front}
+use Rattle.board_file.proofs.Each.{with_front}
 use Rattle.board_file.specs.Views.{texts}
 use Rattle.board_file.proofs.values.texts.Given as goal
 
