@@ -1,0 +1,5 @@
+pub mod Boards
+pub mod Sweeps
+pub mod Closes
+pub mod Schedule
+pub mod Ends
