@@ -83,8 +83,8 @@ turns (suc more) cycles s b =
     behind (byte_of (printed t.state)) (elim t.end [
       | Some end ↦ finished t.state t.board end
       | None ↦
-        let r = rested t.board in
-        if r.cut then over_at t.state r.board ends.TraceFull else turns more cycles (taken t.state) r.board
+          let r = rested t.board in
+          if r.cut then over_at t.state r.board ends.TraceFull else turns more cycles (taken t.state) r.board
     ])
 
 -- The whole run. Each step that does not end it costs a cycle, so there are no more steps than cycles.
@@ -103,4 +103,4 @@ GoesTo zero cycles a z = z ≡ a
 GoesTo (suc more) cycles a z =
     let t = turn cycles a.state a.board in
     (t.end ≡ None) × (((rested t.board).cut ≡ false)
-      × GoesTo more cycles (record { state = taken t.state; board = (rested t.board).board; serial = a.serial ++ byte_of (printed t.state) }) z)
+    × GoesTo more cycles (record { state = taken t.state; board = (rested t.board).board; serial = a.serial ++ byte_of (printed t.state) }) z)
