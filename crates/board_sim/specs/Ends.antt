@@ -1,12 +1,19 @@
 -- What the calls of scripted runs leave, by the schedule.
-use Rattle.std.specs.Prelude.{◌≡◌, ℕ, List, [], ◌++◌, Option, Some, None}
+use Rattle.std.specs.Prelude.{◌≡◌, ◌⊎◌, ℕ, List, [], ◌++◌, ◌∷◌, Option, Some, None}
 use Rattle.wz_base.specs.Whole.{Appends, AppendsFront}
+use Rattle.wz_base.specs.Outside.{RisesOnly}
 use Rattle.chip_sheet.specs.Past.{Past}
+use Rattle.chip_sheet.specs.Streams.{Starts}
+use Rattle.chip_sheet.specs.Legal.{Legal}
+use Rattle.chip_shared.specs.Tied.{Tied}
+use Rattle.link_script.specs.Play.{shown}
 use Rattle.link_script.specs.Links.{played_of}
 use Rattle.link_script.specs.declared.script_links.ScriptLinks.{ScriptLinks}
 use Rattle.avr_mcu.specs.State.{reset_state, printed}
 use Rattle.board_sim.specs.Boards.{Board}
 use Rattle.board_sim.specs.Schedule.{Outcome, Standing, GoesTo, turn}
+use Rattle.board_sim.specs.declared.end.RunEnd.{RunEnd}
+use Rattle.board_sim.specs.declared.end.RunEnd.TheVariants as ends
 use Rattle.board_sim.specs.declared.end.SimEnd.{SimEnd}
 
 -- The history and the peers that a call leaves are these.
