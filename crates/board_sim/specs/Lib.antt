@@ -3,3 +3,4 @@ pub mod Sweeps
 pub mod Closes
 pub mod Schedule
 pub mod Ends
+pub mod Views

@@ -1,12 +1,10 @@
 -- The schedule of a scripted run, whole: steps of the microcontroller, each with the board's answers to what it asks, and sweeps between
 -- them. It is a function of the image, the board's numbers and its scripts.
-use Rattle.std.specs.Prelude.{◌≡◌, ℕ, zero, suc, ◌+◌, Bool, true, false, List, [], ◌∷◌, ◌++◌, Option, Some, None, if◌then◌else◌}
+use Rattle.std.specs.Prelude.{◌≡◌, ℕ, zero, suc, ◌+◌, false, List, [], ◌++◌, Option, Some, None, if◌then◌else◌}
 use Rattle.chip_sheet.specs.Past.{Past}
-use Rattle.chip_sheet.specs.Streams.{Starts}
 use Rattle.chip_sheet.specs.Stops.{stop}
 use Rattle.chip_sheet.specs.declared.stop.ChipStop.{ChipStop}
 use Rattle.board_bus.specs.declared.event.BusEvent.{BusEvent}
-use Rattle.link_script.specs.Scripts.{Script}
 use Rattle.link_script.specs.Play.{Played}
 use Rattle.avr_mcu.specs.Run.{byte_of, end_of}
 use Rattle.avr_mcu.specs.State.{McuState, reset_state, printed, taken}
@@ -14,8 +12,8 @@ use Rattle.avr_mcu.specs.Step.{Gone, stepped}
 use Rattle.avr_mcu.specs.declared.run.RunEnd as firmware
 use Rattle.avr_mcu.specs.declared.run.RunEnd.TheVariants as firmwares
 use Rattle.avr_run.specs.Steps.{Played as PlayedTo, played, instructions_of}
-use Rattle.board_sim.specs.Boards.{Board, fresh, is_full_at, answers, next}
-use Rattle.board_sim.specs.Sweeps.{Swept, rested}
+use Rattle.board_sim.specs.Boards.{Board, is_full_at, answers, next}
+use Rattle.board_sim.specs.Sweeps.{rested}
 use Rattle.board_sim.specs.Closes.{closed}
 use Rattle.board_sim.specs.declared.end.RunEnd.{RunEnd}
 use Rattle.board_sim.specs.declared.end.RunEnd.TheVariants as ends
@@ -83,8 +81,8 @@ turns (suc more) cycles s b =
     behind (byte_of (printed t.state)) (elim t.end [
       | Some end ↦ finished t.state t.board end
       | None ↦
-        let r = rested t.board in
-        if r.cut then over_at t.state r.board ends.TraceFull else turns more cycles (taken t.state) r.board
+          let r = rested t.board in
+          if r.cut then over_at t.state r.board ends.TraceFull else turns more cycles (taken t.state) r.board
     ])
 
 -- The whole run. Each step that does not end it costs a cycle, so there are no more steps than cycles.
@@ -103,4 +101,4 @@ GoesTo zero cycles a z = z ≡ a
 GoesTo (suc more) cycles a z =
     let t = turn cycles a.state a.board in
     (t.end ≡ None) × (((rested t.board).cut ≡ false)
-      × GoesTo more cycles (record { state = taken t.state; board = (rested t.board).board; serial = a.serial ++ byte_of (printed t.state) }) z)
+    × GoesTo more cycles (record { state = taken t.state; board = (rested t.board).board; serial = a.serial ++ byte_of (printed t.state) }) z)

@@ -1,0 +1,4 @@
+pub mod LinkSteps
+pub mod Swept
+pub mod Weights
+pub mod Closed
