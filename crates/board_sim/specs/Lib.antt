@@ -4,3 +4,5 @@ pub mod Closes
 pub mod Schedule
 pub mod Ends
 pub mod Views
+pub mod Report
+pub mod Traced

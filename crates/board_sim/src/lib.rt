@@ -4,3 +4,5 @@
 #![tactic(auto)]
 
 pub mod end;
+pub mod report;
+pub mod trace;
