@@ -1,4 +1,5 @@
 pub mod Answers
 pub mod Adding
 pub mod Stops
+pub mod Firmware
 pub mod Entries

@@ -1,8 +1,9 @@
-//! What the program prints of what happens on the board: the chip's answers, the lines of its history, and why it stops.
+//! What the program prints of what happens on the board: the chip's answers, the lines of its history, and why the chip or the firmware stops.
 #![tactic(auto)]
 
 pub mod answers;
 pub mod entries;
+pub mod firmware;
 pub mod stops;
 #[cfg(test)]
 mod tests;

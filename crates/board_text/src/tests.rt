@@ -1,6 +1,9 @@
 use crate::answers::{end_line, push_answer};
 use crate::entries::{push_entry_line, trace_head};
+use crate::firmware::firmware_text;
 use crate::stops::stop_line;
+use avr_core::AvrStop;
+use avr_sheet::DeviceStop;
 use board_bus::{BusAnswer, BusEvent};
 use chip_sheet::event::{Addr, Event, LinkWhat};
 use chip_sheet::stop::ChipStop;
@@ -64,6 +67,64 @@ fn writes_stops(rt: HostRuntime) -> Result<(), Fail> {
     ] {
         let line = stop_line(rt.alloc(), stop)?;
         assert_eq!(rt; line.as_str(), shown);
+    }
+    Ok(())
+}
+
+fn device(stop: DeviceStop) -> AvrStop {
+    AvrStop::Device { pc: 12, stop }
+}
+
+#[test]
+fn writes_stops_of_the_firmware(rt: HostRuntime) -> Result<(), Fail> {
+    for (stop, shown) in [
+        (
+            AvrStop::Illegal {
+                pc: 3,
+                word: 65_535,
+            },
+            "Illegal 3 65535",
+        ),
+        (
+            AvrStop::Undefined {
+                pc: 4,
+                word: 37_389,
+            },
+            "Undefined 4 37389",
+        ),
+        (
+            AvrStop::BadAddress { pc: 5, addr: 2_304 },
+            "BadAddress 5 2304",
+        ),
+        (AvrStop::StackOut { pc: 6, sp: 255 }, "StackOut 6 255"),
+        (AvrStop::SelfProgram { pc: 7 }, "SelfProgram 7"),
+        (device(DeviceStop::Adc), "Device 12 Adc"),
+        (device(DeviceStop::Twi), "Device 12 Twi"),
+        (device(DeviceStop::Watchdog), "Device 12 Watchdog"),
+        (device(DeviceStop::Eeprom), "Device 12 Eeprom"),
+        (
+            device(DeviceStop::ExternalClock { timer: 1 }),
+            "Device 12 ExternalClock 1",
+        ),
+        (
+            device(DeviceStop::TimerMode { timer: 0, mode: 4 }),
+            "Device 12 TimerMode 0 4",
+        ),
+        (
+            device(DeviceStop::WaveformPin { timer: 2 }),
+            "Device 12 WaveformPin 2",
+        ),
+        (
+            device(DeviceStop::SpiMode { spcr: 84 }),
+            "Device 12 SpiMode 84",
+        ),
+        (
+            device(DeviceStop::UsartMode { ucsr0c: 14 }),
+            "Device 12 UsartMode 14",
+        ),
+    ] {
+        let text = firmware_text(rt.alloc(), stop)?;
+        assert_eq!(rt; text.as_str(), shown);
     }
     Ok(())
 }

@@ -1,0 +1,8 @@
+pub mod Boards
+pub mod Sweeps
+pub mod Closes
+pub mod Schedule
+pub mod Ends
+pub mod Views
+pub mod Report
+pub mod Traced
