@@ -4,3 +4,4 @@ pub mod Closes
 pub mod Schedule
 pub mod Ends
 pub mod Views
+pub mod Exchanges
