@@ -33,7 +33,7 @@ adds_none past = ([], refl)
 adds_one : (entry : Entry) (past : Past) → Adds past (entry ∷ past)
 adds_one entry past = (entry ∷ [], refl)
 
-adds_still : (a b c : Past) → Adds a b → Adds b c → Adds a c
+pub adds_still : (a b c : Past) → Adds a b → Adds b c → Adds a c
 adds_still a b c one two = (two.0 ++ one.0, two.1 ∙ ap (λ (p : Past). two.0 ++ p) one.1 ∙ sym (append_assoc two.0 one.0 a))
 
 link_adds : (b : Board) (place : ℕ) → Adds b.past (linked b place).past
@@ -96,3 +96,7 @@ run_adds (suc more) cycles s b =
     subst (λ (o : Outcome). Adds b.past o.past) (sym (first_turn more cycles s b))
     (adds_still b.past t.board.past (turn_by t.end more cycles t.state t.board).past (turn_adds cycles s b)
     (end_adds t.end more cycles t.state t.board (run_adds more cycles (taken t.state) (rested t.board).board)))
+
+-- What is left of a run behind a step.
+pub turn_left_adds : (end : Option firmware.RunEnd) (more cycles : ℕ) (s : McuState) (b : Board) → Adds b.past (turn_by end more cycles s b).past
+turn_left_adds end more cycles s b = end_adds end more cycles s b (run_adds more cycles (taken s) (rested b).board)

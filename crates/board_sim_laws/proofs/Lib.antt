@@ -5,3 +5,4 @@ pub mod Told
 pub mod Quiet
 pub mod Cut
 pub mod Runs
+pub mod Way

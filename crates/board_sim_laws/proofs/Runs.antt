@@ -1,5 +1,5 @@
 -- The firmware's run stands in the history of a schedule.
-use Rattle.std.proofs.Common.{◌≡◌, ℕ, zero, suc, ◌+◌, ◌≤◌, ◌<◌, inl, inr, Bool, true, false, ◌||◌, if◌then◌else◌, List, [], ◌++◌, Option, None, Some, refl, sym, ap, ◌∙◌, subst, append_assoc, append-nil, arith}
+use Rattle.std.proofs.Common.{◌≡◌, ℕ, zero, suc, ◌+◌, ◌≤◌, ◌<◌, inl, inr, Bool, true, false, ◌||◌, if◌then◌else◌, List, [], ◌++◌, Option, None, Some, refl, sym, ap, ◌∙◌, subst, append-nil, arith}
 use Rattle.std.proofs.lemmas.Bool.{false≢true}
 use Rattle.board_bus.specs.declared.event.BusAnswer.{BusAnswer}
 use Rattle.board_bus.specs.declared.event.BusEvent.{BusEvent}
@@ -28,12 +28,12 @@ use Rattle.board_sim.specs.Schedule.{Outcome, Turn, turn, turns, sched, finished
 use Rattle.board_sim.specs.declared.end.RunEnd.{RunEnd}
 use Rattle.board_sim.specs.declared.end.RunEnd.TheVariants as ends
 use Rattle.board_sim_laws.specs.Runs.{Ends, EndsBy, FirmwareRuns}
-use Rattle.board_sim_laws.proofs.Turns.{turn_by, first_turn}
+use Rattle.board_sim_laws.proofs.Turns.{turn_by, first_turn, behind_behind}
 use Rattle.board_sim_laws.proofs.Told.{told_of, IsDenied, played_came, played_denies}
 use Rattle.board_sim_laws.proofs.Quiet.{Same, rest_same, closing_same}
 use Rattle.board_sim_laws.proofs.Cut.{rest_full}
 
-played_all : {R : Type 0} (P : R → Type 0) (tree : OfBus R) (b : Board) → All P tree → P (played answers next tree b).result
+pub played_all : {R : Type 0} (P : R → Type 0) (tree : OfBus R) (b : Board) → All P tree → P (played answers next tree b).result
 played_all P (Give r) b all = all
 played_all P (Call c go) b all = played_all P (go (answers b c)) (next b c) (all (answers b c))
 
@@ -150,9 +150,6 @@ turn_end starts events more cycles start serial s b t None is from most step lef
     (rest_full t.board) rises.1 (omega (arith, left, rises))
     (subst (SoFar cycles start (serial ++ byte_of (printed t.state)) (taken t.state)) (sym (same_told t.board r.board same)) (step.goes is))
     rest
-
-behind_behind : (xs ys : List ℕ) (o : Outcome) → behind (xs ++ ys) o ≡ behind xs (behind ys o)
-behind_behind xs ys o = ap (λ (bytes : List ℕ). record o { serial = bytes }) (append_assoc xs ys o.serial)
 
 runs_are : (starts : Starts) (events fuel cycles : ℕ) (start : McuState) (serial : List ℕ) → Rest starts events fuel cycles start serial
 runs_are starts events zero cycles start serial s b from most within left far = absurd (omega arith)

@@ -1,5 +1,5 @@
 -- What a schedule comes to behind its first step.
-use Rattle.std.proofs.Common.{◌≡◌, ℕ, suc, if◌then◌else◌, Option, Some, None, refl, ap}
+use Rattle.std.proofs.Common.{◌≡◌, ℕ, suc, if◌then◌else◌, List, ◌++◌, Option, Some, None, refl, ap, append_assoc}
 use Rattle.avr_mcu.specs.Run.{byte_of}
 use Rattle.avr_mcu.specs.State.{McuState, printed, taken}
 use Rattle.avr_mcu.specs.declared.run.RunEnd as firmware
@@ -27,3 +27,7 @@ unfolding turns
 first_turn more cycles s b =
     let t = turn cycles s b in
     ap (behind (byte_of (printed t.state))) (by_elim t.end more cycles t.state t.board)
+
+-- Bytes before others.
+pub behind_behind : (xs ys : List ℕ) (o : Outcome) → behind (xs ++ ys) o ≡ behind xs (behind ys o)
+behind_behind xs ys o = ap (λ (bytes : List ℕ). record o { serial = bytes }) (append_assoc xs ys o.serial)

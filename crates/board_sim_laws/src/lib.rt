@@ -3,6 +3,7 @@
 
 ghost use Rattle.board_sim_laws.specs.Grows.{ClosingAdds, RunAdds, SweepAdds, TurnAdds};
 ghost use Rattle.board_sim_laws.specs.Runs.{FirmwareRuns};
+ghost use Rattle.board_sim_laws.specs.Way.{WayLeads};
 
 /// A run only adds to its history: so does each of its steps, each sweep, closing, and what is left of a run.
 pub fn history_grows()
@@ -16,4 +17,10 @@ pub fn history_grows()
 /// prints what the schedule prints, and ends as the schedule says.
 pub fn firmware_runs()
     ensures { FirmwareRuns }
+{}
+
+/// Where a run stands between two steps, its history and what it printed begin those of the whole run, and so they do after the next
+/// step.
+pub fn way_leads()
+    ensures { WayLeads }
 {}
