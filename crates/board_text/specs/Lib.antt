@@ -1,3 +1,4 @@
 pub mod Answers
 pub mod Adding
 pub mod Stops
+pub mod Entries

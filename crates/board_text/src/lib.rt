@@ -1,7 +1,8 @@
-//! What the program prints of what happens on the board: the chip's answers, and why it stops.
+//! What the program prints of what happens on the board: the chip's answers, the lines of its history, and why it stops.
 #![tactic(auto)]
 
 pub mod answers;
+pub mod entries;
 pub mod stops;
 #[cfg(test)]
 mod tests;

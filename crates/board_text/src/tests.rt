@@ -1,6 +1,8 @@
 use crate::answers::{end_line, push_answer};
+use crate::entries::{push_entry_line, trace_head};
 use crate::stops::stop_line;
-use board_bus::BusAnswer;
+use board_bus::{BusAnswer, BusEvent};
+use chip_sheet::event::{Addr, Event, LinkWhat};
 use chip_sheet::stop::ChipStop;
 use std::test::Fail;
 
@@ -63,5 +65,44 @@ fn writes_stops(rt: HostRuntime) -> Result<(), Fail> {
         let line = stop_line(rt.alloc(), stop)?;
         assert_eq!(rt; line.as_str(), shown);
     }
+    Ok(())
+}
+
+#[test]
+fn writes_traces(rt: HostRuntime) -> Result<(), Fail> {
+    let from = Addr {
+        ip: [10, 0, 0, 255],
+        port: 40_000,
+    };
+    let mut text = Vec::new(rt.alloc());
+    text.extend_from_slice(trace_head(rt.alloc(), 0, 65_535)?.as_bytes())?;
+    for event in [
+        Event::Bus(BusEvent::Select(true), BusAnswer::Done),
+        Event::Bus(BusEvent::Byte(0x0A), BusAnswer::Out(0xF9)),
+        Event::Bus(BusEvent::Look, BusAnswer::Level(true)),
+        Event::Bus(BusEvent::Look, BusAnswer::Level(false)),
+        Event::Bus(BusEvent::Select(false), BusAnswer::Done),
+        Event::Link(0, LinkWhat::Linked),
+        Event::Link(1, LinkWhat::Accepted(from)),
+        Event::Link(2, LinkWhat::Refused),
+        Event::Link(3, LinkWhat::TimedOut),
+        Event::Link(4, LinkWhat::Took(4_294_967_295)),
+        Event::Link(5, LinkWhat::Got(&[0x00, 0xAB])),
+        Event::Link(6, LinkWhat::Datagram(from, &[0xC1])),
+        Event::Link(6, LinkWhat::Datagram(from, &[])),
+        Event::Link(7, LinkWhat::Ended),
+        Event::Link(7, LinkWhat::Shut),
+        Event::Link(7, LinkWhat::Failed),
+        Event::Link(7, LinkWhat::Dropped),
+        Event::Rest,
+    ] {
+        push_entry_line(&mut text, event)?;
+    }
+    let shown =
+        "w5500 trace 1 0 65535\nL\n0A>F9\n?1\n?0\nH\n@0:linked\n@1:accepted:10.0.0.255:40000\n\
+                 @2:refused\n@3:timedout\n@4:took:4294967295\n@5:got:00AB\n\
+                 @6:datagram:10.0.0.255:40000:C1\n@6:datagram:10.0.0.255:40000:\n\
+                 @7:ended\n@7:shut\n@7:failed\n@7:dropped\n.\n";
+    assert_eq!(rt; text.as_slice(), shown.as_bytes());
     Ok(())
 }

@@ -1,6 +1,6 @@
 use Rattle.std.proofs.Common.{◌≡◌, ◌<◌, ◌^◌, drop}
-use Rattle.board_gen.specs.Numbers.{number_behind}
-use Rattle.board_gen.proofs.numbers.number.Given as goal
+use Rattle.board_read.specs.Numbers.{number_behind}
+use Rattle.board_read.proofs.numbers.number.Given as goal
 
 abbrev pub invariant-loop-digit : goal.invariant-loop-digit
 invariant-loop-digit l = record {

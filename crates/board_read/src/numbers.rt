@@ -1,7 +1,7 @@
-// Numbers and addresses of scripts.
+//! Numbers and addresses, in decimal.
 ghost use Rattle.std.specs.Prelude.{◌≡◌, ◌≤◌, IfOk, IfSome};
-ghost use Rattle.board_gen.specs.Numbers.{number, at_most, port, count, has_leading_zero, written, pointer, four_bytes, address};
-ghost use Rattle.board_gen.specs.Views.{texts};
+ghost use Rattle.board_read.specs.Numbers.{number, at_most, port, count, has_leading_zero, written, pointer, four_bytes, address};
+ghost use Rattle.board_read.specs.Texts.{texts};
 
 use crate::cuts::parts;
 use std::alloc::{AllocError, Global};

@@ -1,6 +1,6 @@
 use Rattle.std.proofs.Common.{arith}
-use Rattle.board_gen.proofs.Others.{not_four}
-use Rattle.board_gen.proofs.numbers.four_bytes.Goals as goal
+use Rattle.board_read.proofs.Others.{not_four}
+use Rattle.board_read.proofs.numbers.four_bytes.Goals as goal
 
 pub returns-in_default : goal.returns-in_default
 returns-in_default c = not_four c.args.parts.now (omega (arith, c.in_default.len_below))
