@@ -23,7 +23,7 @@ use Rattle.wz_board.specs.declared.words.BoardCommand.TheVariants as boards
 use Rattle.wz_board.specs.Checked.{beside, judged, judged_image, with_board}
 use Rattle.wz_board.specs.Reads.{Counts, Reading, WasRead}
 use Rattle.wz_board.specs.Words.{Asked, OnText, OnBoard, Help}
-use Rattle.wz_board.specs.Outcome.{Outcome, board_outcome, end_of, listed_outcome, on_reading, on_readings, text_outcome, unread, IsLegal, Ran, Reports, Shows}
+use Rattle.wz_board.specs.Outcome.{Outcome, end_of, listed_outcome, on_reading, text_outcome, unread, IsLegal, Ran, RanBoard, RanBoth, RanJudged, Reports, Shows}
 use Rattle.wz_board.proofs.Causes.{rose_since}
 
 -- an end that the texts of the operands give
@@ -55,17 +55,6 @@ text_ends : (what : TextCommand) (text : List ℕ) → IsOfTexts (text_outcome w
 text_ends texts.Bus text = script_ends (shown text).end
 text_ends texts.List text = list_ends text (fault_in text)
 
-beside_ends : (what : BoardCommand) (image : List ℕ) (setup : Result Setup BoardFault) → IsOfTexts (board_outcome what (beside image setup)).end
-beside_ends boards.Check image (Ok setup) = tt
-beside_ends boards.Check image (Err fault) = tt
-
-with_ends : (what : BoardCommand) (text : List ℕ) (fault : Option HexFault) (board : List ℕ) → IsOfTexts (board_outcome what (with_board (judged_image text fault) board)).end
-with_ends what text None board = beside_ends what _ (board_of board)
-with_ends boards.Check text (Some fault) board = tt
-
-board_ends : (what : BoardCommand) (image board : List ℕ) → IsOfTexts (board_outcome what (judged image board)).end
-board_ends what image board = with_ends what image (fault_in image) board
-
 -- a refusal is that of the outcome
 outcome_ends : (o : Outcome) (end : EndKind) (past : Past) (old new : Option (List ℕ)) (refusal : Refusal) → Shows o end past old new → end ≡ Refused refusal → o.end ≡ Refused refusal
 outcome_ends o Done past old new refusal it is = cc
@@ -73,6 +62,36 @@ outcome_ends o (Chip s) past old new refusal it is = cc
 outcome_ends o WriteFault past old new refusal it is = cc
 outcome_ends o NoMemory past old new refusal it is = cc
 outcome_ends o (Refused r) past old new refusal it is = sym it.0 ∙ is
+
+-- a command that ends as its outcome, by this refusal
+ran_ends : (o : Outcome) (r : QuickEnd) (old new : Option (List ℕ)) (faults faults' : ℕ) (refusal : Refusal) → Ran o r old new faults faults' → r.end ≡ Refused refusal → o.end ≡ Refused refusal
+ran_ends o r old new faults faults' refusal ran is = outcome_ends o r.end r.history.past old new refusal ran.shows is
+
+shows_of_texts : (o : Outcome) (end : EndKind) (past : Past) (old new : Option (List ℕ)) → IsOfTexts o.end → Shows o end past old new → IsOfTexts end
+shows_of_texts o Done past old new of_texts it = tt
+shows_of_texts o (Chip s) past old new of_texts it = tt
+shows_of_texts o WriteFault past old new of_texts it = tt
+shows_of_texts o NoMemory past old new of_texts it = tt
+shows_of_texts o (Refused r) past old new of_texts it = subst IsOfTexts (sym it.0) of_texts
+
+ran_of_texts : (o : Outcome) (r : QuickEnd) (old new : Option (List ℕ)) (faults faults' : ℕ) → IsOfTexts o.end → Ran o r old new faults faults' → IsOfTexts r.end
+ran_of_texts o r old new faults faults' of_texts ran = shows_of_texts o r.end r.history.past old new of_texts ran.shows
+
+both_ends : (what : BoardCommand) (image : List ℕ) (setup : Setup) (r : QuickEnd) (old new : Option (List ℕ)) (faults faults' : ℕ) → RanBoth what image setup r old new faults faults' → IsOfTexts r.end
+both_ends boards.Check image setup r old new faults faults' ran = ran_of_texts _ r old new faults faults' tt ran
+
+beside_ends : (what : BoardCommand) (image : List ℕ) (setup : Result Setup BoardFault) (r : QuickEnd) (old new : Option (List ℕ)) (faults faults' : ℕ)
+    → RanJudged what (beside image setup) r old new faults faults' → IsOfTexts r.end
+beside_ends what image (Ok setup) r old new faults faults' ran = both_ends what image setup r old new faults faults' ran
+beside_ends what image (Err fault) r old new faults faults' ran = ran_of_texts _ r old new faults faults' tt ran
+
+with_ends : (what : BoardCommand) (text : List ℕ) (fault : Option HexFault) (board : List ℕ) (r : QuickEnd) (old new : Option (List ℕ)) (faults faults' : ℕ)
+    → RanJudged what (with_board (judged_image text fault) board) r old new faults faults' → IsOfTexts r.end
+with_ends what text None board r old new faults faults' ran = beside_ends what _ (board_of board) r old new faults faults' ran
+with_ends what text (Some fault) board r old new faults faults' ran = ran_of_texts _ r old new faults faults' tt ran
+
+board_ends : (what : BoardCommand) (image board : List ℕ) (r : QuickEnd) (old new : Option (List ℕ)) (faults faults' : ℕ) → RanJudged what (judged image board) r old new faults faults' → IsOfTexts r.end
+board_ends what image board r old new faults faults' ran = with_ends what image (fault_in image) board r old new faults faults' ran
 
 -- what was not read, by its refusal
 no_file : (operand of : ℕ) (e : ReadError) → (unread of e).end ≡ Refused (refusals.NoFile operand) → e ≡ errors.NoFile
@@ -96,26 +115,26 @@ text_failed operand what (Ok text) is = absurd (subst IsOfTexts is (text_ends wh
 text_failed operand what (Err e) is = ap Err (read_fault operand 1 e is)
 
 board_missed : (files : Option (List ℕ → Option (List ℕ))) (before between after : Counts) (what : BoardCommand) (image board : List ℕ) (first second : Reading) (operand : ℕ)
-    → WasRead files image before between first → MatchResult first (λ text. WasRead files board between after second) (λ e. after ≡ between)
-    → (on_readings what first second).end ≡ Refused (refusals.NoFile operand) → Rose before.misses after.misses
-board_missed files before between after what image board (Err e) second operand one two is =
-    subst (λ (c : Counts). Rose before.misses c.misses) (sym two) (one.missed.rose (ap Err (no_file operand 1 e is)))
-board_missed files before between after what image board (Ok text) (Ok more) operand one two is = absurd (subst IsOfTexts is (board_ends what text more))
-board_missed files before between after what image board (Ok text) (Err e) operand one two is =
-    rose_since before.misses between.misses after.misses one.missed.later (two.missed.rose (ap Err (no_file operand 2 e is)))
+    → (r : QuickEnd) (old new : Option (List ℕ)) (faults faults' : ℕ) → WasRead files image before between first
+    → MatchResult first (λ text. WasRead files board between after second) (λ e. after ≡ between) → RanBoard what first second r old new faults faults' → r.end ≡ Refused (refusals.NoFile operand)
+    → Rose before.misses after.misses
+board_missed files before between after what image board (Err e) second operand r old new faults faults' one two ran is =
+    subst (λ (c : Counts). Rose before.misses c.misses) (sym two) (one.missed.rose (ap Err (no_file operand 1 e (ran_ends _ r old new faults faults' _ ran is))))
+board_missed files before between after what image board (Ok text) (Ok more) operand r old new faults faults' one two ran is =
+    absurd (subst IsOfTexts is (board_ends what text more r old new faults faults' ran))
+board_missed files before between after what image board (Ok text) (Err e) operand r old new faults faults' one two ran is =
+    rose_since before.misses between.misses after.misses one.missed.later (two.missed.rose (ap Err (no_file operand 2 e (ran_ends _ r old new faults faults' _ ran is))))
 
 board_failed : (files : Option (List ℕ → Option (List ℕ))) (before between after : Counts) (what : BoardCommand) (image board : List ℕ) (first second : Reading) (operand : ℕ)
-    → WasRead files image before between first → MatchResult first (λ text. WasRead files board between after second) (λ e. after ≡ between)
-    → (on_readings what first second).end ≡ Refused (refusals.ReadFault operand) → Rose before.faults after.faults
-board_failed files before between after what image board (Err e) second operand one two is =
-    subst (λ (c : Counts). Rose before.faults c.faults) (sym two) (one.failed.rose (ap Err (read_fault operand 1 e is)))
-board_failed files before between after what image board (Ok text) (Ok more) operand one two is = absurd (subst IsOfTexts is (board_ends what text more))
-board_failed files before between after what image board (Ok text) (Err e) operand one two is =
-    rose_since before.faults between.faults after.faults one.failed.later (two.failed.rose (ap Err (read_fault operand 2 e is)))
-
--- a command that ends as its outcome, by this refusal
-ran_ends : (o : Outcome) (r : QuickEnd) (old new : Option (List ℕ)) (faults faults' : ℕ) (refusal : Refusal) → Ran o r old new faults faults' → r.end ≡ Refused refusal → o.end ≡ Refused refusal
-ran_ends o r old new faults faults' refusal ran is = outcome_ends o r.end r.history.past old new refusal ran.shows is
+    → (r : QuickEnd) (old new : Option (List ℕ)) (faults faults' : ℕ) → WasRead files image before between first
+    → MatchResult first (λ text. WasRead files board between after second) (λ e. after ≡ between) → RanBoard what first second r old new faults faults' → r.end ≡ Refused (refusals.ReadFault operand)
+    → Rose before.faults after.faults
+board_failed files before between after what image board (Err e) second operand r old new faults faults' one two ran is =
+    subst (λ (c : Counts). Rose before.faults c.faults) (sym two) (one.failed.rose (ap Err (read_fault operand 1 e (ran_ends _ r old new faults faults' _ ran is))))
+board_failed files before between after what image board (Ok text) (Ok more) operand r old new faults faults' one two ran is =
+    absurd (subst IsOfTexts is (board_ends what text more r old new faults faults' ran))
+board_failed files before between after what image board (Ok text) (Err e) operand r old new faults faults' one two ran is =
+    rose_since before.faults between.faults after.faults one.failed.later (two.failed.rose (ap Err (read_fault operand 2 e (ran_ends _ r old new faults faults' _ ran is))))
 
 -- no file was there, so the count of misses rose
 pub reports_missed : (files : Option (List ℕ → Option (List ℕ))) (before after : Counts) (form : Option Asked) (r : QuickEnd) (old new : Option (List ℕ)) (faults faults' : ℕ)
@@ -125,7 +144,7 @@ reports_missed files before after (Some Help) r old new faults faults' it operan
 reports_missed files before after (Some (OnText what name)) r old new faults faults' it operand is =
     it.read.missed.rose (text_missed operand what it.reading (ran_ends _ r old new faults faults' _ it.ran is))
 reports_missed files before after (Some (OnBoard what image board)) r old new faults faults' it operand is =
-    board_missed files before it.between after what image board it.first it.second operand it.read_first it.read_second (ran_ends _ r old new faults faults' _ it.ran is)
+    board_missed files before it.between after what image board it.first it.second operand r old new faults faults' it.read_first it.read_second it.ran is
 
 -- a read failed, so the count of faults rose
 pub reports_failed : (files : Option (List ℕ → Option (List ℕ))) (before after : Counts) (form : Option Asked) (r : QuickEnd) (old new : Option (List ℕ)) (faults faults' : ℕ)
@@ -135,7 +154,7 @@ reports_failed files before after (Some Help) r old new faults faults' it operan
 reports_failed files before after (Some (OnText what name)) r old new faults faults' it operand is =
     it.read.failed.rose (text_failed operand what it.reading (ran_ends _ r old new faults faults' _ it.ran is))
 reports_failed files before after (Some (OnBoard what image board)) r old new faults faults' it operand is =
-    board_failed files before it.between after what image board it.first it.second operand it.read_first it.read_second (ran_ends _ r old new faults faults' _ it.ran is)
+    board_failed files before it.between after what image board it.first it.second operand r old new faults faults' it.read_first it.read_second it.ran is
 
 no_usage_unread : (of : ℕ) (e : ReadError) → (unread of e).end ≢ Refused refusals.Usage
 no_usage_unread of errors.NoFile is = cc
@@ -147,10 +166,10 @@ no_usage_text : (what : TextCommand) (reading : Reading) → (on_reading what re
 no_usage_text what (Ok text) is = subst IsOfTexts is (text_ends what text)
 no_usage_text what (Err e) is = no_usage_unread 1 e is
 
-no_usage_board : (what : BoardCommand) (first second : Reading) → (on_readings what first second).end ≢ Refused refusals.Usage
-no_usage_board what (Err e) second is = no_usage_unread 1 e is
-no_usage_board what (Ok image) (Err e) is = no_usage_unread 2 e is
-no_usage_board what (Ok image) (Ok board) is = subst IsOfTexts is (board_ends what image board)
+no_usage_board : (what : BoardCommand) (first second : Reading) (r : QuickEnd) (old new : Option (List ℕ)) (faults faults' : ℕ) → RanBoard what first second r old new faults faults' → r.end ≢ Refused refusals.Usage
+no_usage_board what (Err e) second r old new faults faults' ran is = no_usage_unread 1 e (ran_ends _ r old new faults faults' _ ran is)
+no_usage_board what (Ok image) (Err e) r old new faults faults' ran is = no_usage_unread 2 e (ran_ends _ r old new faults faults' _ ran is)
+no_usage_board what (Ok image) (Ok board) r old new faults faults' ran is = subst IsOfTexts is (board_ends what image board r old new faults faults' ran)
 
 -- words that are refused are no written form
 pub reports_usage : (files : Option (List ℕ → Option (List ℕ))) (before after : Counts) (form : Option Asked) (r : QuickEnd) (old new : Option (List ℕ)) (faults faults' : ℕ)
@@ -160,10 +179,22 @@ reports_usage files before after (Some Help) r old new faults faults' it is = cc
 reports_usage files before after (Some (OnText what name)) r old new faults faults' it is =
     absurd (no_usage_text what it.reading (ran_ends _ r old new faults faults' _ it.ran is))
 reports_usage files before after (Some (OnBoard what image board)) r old new faults faults' it is =
-    absurd (no_usage_board what it.first it.second (ran_ends _ r old new faults faults' _ it.ran is))
+    absurd (no_usage_board what it.first it.second r old new faults faults' it.ran is)
 
 ran_legal : (o : Outcome) (r : QuickEnd) (old new : Option (List ℕ)) (faults faults' : ℕ) → Ran o r old new faults faults' → IsLegal r.history.past
 ran_legal o r old new faults faults' ran = record { starts = o.starts; legal = ran.legal }
+
+legal_both : (what : BoardCommand) (image : List ℕ) (setup : Setup) (r : QuickEnd) (old new : Option (List ℕ)) (faults faults' : ℕ) → RanBoth what image setup r old new faults faults' → IsLegal r.history.past
+legal_both boards.Check image setup r old new faults faults' ran = ran_legal _ r old new faults faults' ran
+
+legal_judged : (what : BoardCommand) (judged : Result (List ℕ × Setup) Refusal) (r : QuickEnd) (old new : Option (List ℕ)) (faults faults' : ℕ) → RanJudged what judged r old new faults faults' → IsLegal r.history.past
+legal_judged what (Ok both) r old new faults faults' ran = legal_both what both.0 both.1 r old new faults faults' ran
+legal_judged what (Err refusal) r old new faults faults' ran = ran_legal _ r old new faults faults' ran
+
+legal_board : (what : BoardCommand) (first second : Reading) (r : QuickEnd) (old new : Option (List ℕ)) (faults faults' : ℕ) → RanBoard what first second r old new faults faults' → IsLegal r.history.past
+legal_board what (Err e) second r old new faults faults' ran = ran_legal _ r old new faults faults' ran
+legal_board what (Ok image) (Err e) r old new faults faults' ran = ran_legal _ r old new faults faults' ran
+legal_board what (Ok image) (Ok board) r old new faults faults' ran = legal_judged what (judged image board) r old new faults faults' ran
 
 -- the chip allows what happened
 pub reports_legal : (files : Option (List ℕ → Option (List ℕ))) (before after : Counts) (form : Option Asked) (r : QuickEnd) (old new : Option (List ℕ)) (faults faults' : ℕ)
@@ -171,7 +202,19 @@ pub reports_legal : (files : Option (List ℕ → Option (List ℕ))) (before af
 reports_legal files before after None r old new faults faults' it = ran_legal _ r old new faults faults' it.ran
 reports_legal files before after (Some Help) r old new faults faults' it = ran_legal _ r old new faults faults' it.ran
 reports_legal files before after (Some (OnText what name)) r old new faults faults' it = ran_legal _ r old new faults faults' it.ran
-reports_legal files before after (Some (OnBoard what image board)) r old new faults faults' it = ran_legal _ r old new faults faults' it.ran
+reports_legal files before after (Some (OnBoard what image board)) r old new faults faults' it = legal_board what it.first it.second r old new faults faults' it.ran
+
+written_both : (what : BoardCommand) (image : List ℕ) (setup : Setup) (r : QuickEnd) (old new : Option (List ℕ)) (faults faults' : ℕ) → RanBoth what image setup r old new faults faults' → RisesOnly (r.end ≡ WriteFault) faults faults'
+written_both boards.Check image setup r old new faults faults' ran = ran.causes
+
+written_judged : (what : BoardCommand) (judged : Result (List ℕ × Setup) Refusal) (r : QuickEnd) (old new : Option (List ℕ)) (faults faults' : ℕ) → RanJudged what judged r old new faults faults' → RisesOnly (r.end ≡ WriteFault) faults faults'
+written_judged what (Ok both) r old new faults faults' ran = written_both what both.0 both.1 r old new faults faults' ran
+written_judged what (Err refusal) r old new faults faults' ran = ran.causes
+
+written_board : (what : BoardCommand) (first second : Reading) (r : QuickEnd) (old new : Option (List ℕ)) (faults faults' : ℕ) → RanBoard what first second r old new faults faults' → RisesOnly (r.end ≡ WriteFault) faults faults'
+written_board what (Err e) second r old new faults faults' ran = ran.causes
+written_board what (Ok image) (Err e) r old new faults faults' ran = ran.causes
+written_board what (Ok image) (Ok board) r old new faults faults' ran = written_judged what (judged image board) r old new faults faults' ran
 
 -- the sink failed exactly where its count rose
 pub reports_written : (files : Option (List ℕ → Option (List ℕ))) (before after : Counts) (form : Option Asked) (r : QuickEnd) (old new : Option (List ℕ)) (faults faults' : ℕ)
@@ -179,4 +222,4 @@ pub reports_written : (files : Option (List ℕ → Option (List ℕ))) (before 
 reports_written files before after None r old new faults faults' it = it.ran.causes
 reports_written files before after (Some Help) r old new faults faults' it = it.ran.causes
 reports_written files before after (Some (OnText what name)) r old new faults faults' it = it.ran.causes
-reports_written files before after (Some (OnBoard what image board)) r old new faults faults' it = it.ran.causes
+reports_written files before after (Some (OnBoard what image board)) r old new faults faults' it = written_board what it.first it.second r old new faults faults' it.ran

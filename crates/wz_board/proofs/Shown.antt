@@ -1,10 +1,11 @@
 -- A script's end as a command's, and the line of a refusal, also behind the script's text.
-use Rattle.std.proofs.Common.{arith, append-nil, ◌≡◌, ◌≢◌, ℕ, List, [], ◌++◌, Option, refl, sym, ap, ◌∙◌, subst}
+use Rattle.std.proofs.Common.{arith, append-nil, ◌≡◌, ◌≢◌, ℕ, List, [], ◌++◌, Option, None, Result, Ok, Err, refl, sym, ap, ◌∙◌, subst}
 use Rattle.chip_sheet.specs.Past.{Past}
 use Rattle.chip_sheet.specs.Legal.{Legal}
 use Rattle.wz_base.specs.Outside.{RisesOnly}
 use Rattle.wz_base.specs.Whole.{Appends, AppendsFront}
 use Rattle.wz_base.proofs.Gathered.{appends_then, appends_none, front_before, front_first, front_then}
+use Rattle.board_file.specs.Boards.{Setup}
 use Rattle.board_gen.specs.declared.fault.ScriptFault.{ScriptFault}
 use Rattle.board_gen.specs.declared.end.ScriptStop.{ScriptStop}
 use Rattle.board_gen.specs.declared.end.ScriptStop.TheVariants as stops
@@ -16,7 +17,9 @@ use Rattle.wz_board.specs.declared.end.EndKind.{EndKind}
 use Rattle.wz_board.specs.declared.end.EndKind.TheVariants.{Done, Chip, WriteFault, NoMemory, Refused}
 use Rattle.wz_board.specs.Ends.{fault_text}
 use Rattle.wz_board.specs.declared.end.QuickEnd.{QuickEnd}
-use Rattle.wz_board.specs.Outcome.{Outcome, end_of, last_line, refused, script_outcome, AddsLine, IsCut, IsWhole, Ran, Shows}
+use Rattle.wz_board.specs.declared.words.BoardCommand.{BoardCommand}
+use Rattle.wz_board.specs.declared.words.BoardCommand.TheVariants as boards
+use Rattle.wz_board.specs.Outcome.{Outcome, end_of, last_line, refused, script_outcome, AddsLine, IsCut, IsWhole, Ran, RanJudged, Shows}
 use Rattle.wz_board.proofs.Causes.{rises_as}
 
 -- the text and the line behind it
@@ -80,9 +83,15 @@ line_shown refusal NoMemory old new adds = subst (λ (m : Option (List ℕ)). Is
 line_shown refusal (Refused r) old new adds = (ap Refused adds.0, refl, adds.1)
 
 -- memory ran out before anything happened
-pub none_ran : (o : Outcome) (r : QuickEnd) (old : Option (List ℕ)) (faults : ℕ) → r.end ≡ NoMemory → r.history.past ≡ [] → Ran o r old old faults faults
-none_ran o r old faults is past = record {
+pub none_ran : (o : Outcome) (r : QuickEnd) (old : Option (List ℕ)) (faults : ℕ) → r.end ≡ NoMemory → r.history.past ≡ [] → r.script ≡ None → Ran o r old old faults faults
+none_ran o r old faults is past script = record {
   shows = rw (is, past) (cut_none o old);
   legal = subst (λ (p : Past). Legal o.starts p) (sym past) tt;
+  script = script;
   causes = record { later = omega arith; rose = λ e. cc (sym is ∙ e); still = λ no. refl };
 }
+
+pub none_ran_board : (what : BoardCommand) (judged : Result (List ℕ × Setup) Refusal) (r : QuickEnd) (old : Option (List ℕ)) (faults : ℕ) → r.end ≡ NoMemory → r.history.past ≡ [] → r.script ≡ None
+    → RanJudged what judged r old old faults faults
+none_ran_board boards.Check (Ok both) r old faults is past script = none_ran _ r old faults is past script
+none_ran_board what (Err refusal) r old faults is past script = none_ran _ r old faults is past script

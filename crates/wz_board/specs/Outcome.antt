@@ -73,11 +73,6 @@ abbrev pub text_outcome : TextCommand → List ℕ → Outcome
 text_outcome texts.Bus text = script_outcome text
 text_outcome texts.List text = listed_outcome (judged_image text (fault_in text))
 
--- What a command on an image and a board comes to, or the refusal of their texts.
-abbrev pub board_outcome : BoardCommand → Result (List ℕ × Setup) Refusal → Outcome
-board_outcome boards.Check (Ok both) = at_rest Done (check_text both.0 both.1)
-board_outcome what (Err refusal) = refused refusal
-
 -- A command whose operand of this number was not read.
 abbrev pub unread : ℕ → ReadError → Outcome
 unread operand errors.NoFile = refused (refusals.NoFile operand)
@@ -85,15 +80,10 @@ unread operand errors.ReadFault = refused (refusals.ReadFault operand)
 unread operand errors.TooLong = refused (refusals.TooLong operand)
 unread operand errors.NoMemory = at_rest NoMemory []
 
--- What a command comes to, by what was read of its operands.
+-- What a command on one file comes to, by what was read of it.
 abbrev pub on_reading : TextCommand → Reading → Outcome
 on_reading what (Ok text) = text_outcome what text
 on_reading what (Err e) = unread 1 e
-
-abbrev pub on_readings : BoardCommand → Reading → Reading → Outcome
-on_readings what (Ok image) (Ok board) = board_outcome what (judged image board)
-on_readings what (Ok image) (Err e) = unread 2 e
-on_readings what (Err e) second = unread 1 e
 
 -- The history and the text are prefixes of what they should be.
 abbrev pub IsCut : Outcome → Past → Option (List ℕ) → Option (List ℕ) → Type 0
@@ -125,11 +115,27 @@ pub record IsLegal (past : Past) : Type 0 where
   pub legal : Legal starts past
 
 -- What a command leaves, over a sink that had this text and this count of faults before and after: the outcome's end, history and text; a
--- history that the chip allows; and a write fault exactly where the count rose.
+-- history that the chip allows; no scripted peers; and a write fault exactly where the count rose.
 pub record Ran (o : Outcome) (r : QuickEnd) (old new : Option (List ℕ)) (before after : ℕ) : Type 0 where
   pub shows : Shows o r.end r.history.past old new
   pub legal : Legal o.starts r.history.past
+  pub script : r.script ≡ None
   pub causes : RisesOnly (r.end ≡ WriteFault) before after
+
+-- What a command on an image and a board leaves that have no fault.
+abbrev pub RanBoth : BoardCommand → List ℕ → Setup → QuickEnd → Option (List ℕ) → Option (List ℕ) → ℕ → ℕ → Type 0
+RanBoth boards.Check image setup r old new before after = Ran (at_rest Done (check_text image setup)) r old new before after
+
+-- What it leaves, by the judgement of both texts.
+abbrev pub RanJudged : BoardCommand → Result (List ℕ × Setup) Refusal → QuickEnd → Option (List ℕ) → Option (List ℕ) → ℕ → ℕ → Type 0
+RanJudged what (Ok both) r old new before after = RanBoth what both.0 both.1 r old new before after
+RanJudged what (Err refusal) r old new before after = Ran (refused refusal) r old new before after
+
+-- What it leaves, by what was read of both.
+abbrev pub RanBoard : BoardCommand → Reading → Reading → QuickEnd → Option (List ℕ) → Option (List ℕ) → ℕ → ℕ → Type 0
+RanBoard what (Ok image) (Ok board) r old new before after = RanJudged what (judged image board) r old new before after
+RanBoard what (Ok image) (Err e) r old new before after = Ran (unread 2 e) r old new before after
+RanBoard what (Err e) second r old new before after = Ran (unread 1 e) r old new before after
 
 -- A command on one file, over files whose counts were these before and after: the outcome of what was read of it.
 pub record ReportsText (files : Option (List ℕ → Option (List ℕ))) (before after : Counts) (what : TextCommand) (name : List ℕ)
@@ -138,7 +144,7 @@ pub record ReportsText (files : Option (List ℕ → Option (List ℕ))) (before
   pub read : WasRead files name before after reading
   pub ran : Ran (on_reading what reading) r old new faults faults_now
 
--- A command on an image and a board: the outcome of what was read of both. The board is read once the image was read, and else nothing
+-- A command on an image and a board: what was read of both, and what it left. The board is read once the image was read, and else nothing
 -- more was asked of the files.
 pub record ReportsBoard (files : Option (List ℕ → Option (List ℕ))) (before after : Counts) (what : BoardCommand) (image board : List ℕ)
     (r : QuickEnd) (old new : Option (List ℕ)) (faults faults_now : ℕ) : Type 0 where
@@ -147,7 +153,7 @@ pub record ReportsBoard (files : Option (List ℕ → Option (List ℕ))) (befor
   pub second : Reading
   pub read_first : WasRead files image before between first
   pub read_second : MatchResult first (λ text. WasRead files board between after second) (λ e. after ≡ between)
-  pub ran : Ran (on_readings what first second) r old new faults faults_now
+  pub ran : RanBoard what first second r old new faults faults_now
 
 -- A command that reads no file.
 pub record ReportsAlone (before after : Counts) (o : Outcome) (r : QuickEnd) (old new : Option (List ℕ)) (faults faults_now : ℕ) : Type 0 where

@@ -1,9 +1,9 @@
 //! Commands on the text of a firmware image and that of a board.
-ghost use Rattle.std.specs.Prelude.{◌≡◌, ◌≤◌, length, string_bytes, Ok, IfOk};
+ghost use Rattle.std.specs.Prelude.{◌≡◌, ◌≤◌, length, string_bytes, IfOk};
 ghost use Rattle.board_file.specs.Boards.{board_of};
 ghost use Rattle.wz_board.specs.declared.reading.TheConstants.{TEXT_LIMIT};
 ghost use Rattle.wz_board.specs.Checked.{beside, check_text, judged, programmed};
-ghost use Rattle.wz_board.specs.Outcome.{board_outcome, Ran};
+ghost use Rattle.wz_board.specs.Outcome.{RanBoth, RanJudged};
 
 use crate::end::{EndKind, QuickEnd, Refusal};
 use crate::left::{nothing_ran, refuse};
@@ -34,7 +34,7 @@ fn check_text(alloc: Global, image: &Image, board: &Board) -> Result<String, All
 
 /// Counts what an image and a board say.
 fn check<K: Sink>(alloc: Global, image: &Image, board: &Board, out: &mut K) -> QuickEnd
-    ensures { Ran (board_outcome BoardCommand.Check (Ok (image.now, board.now))) result (K.written out.old) (K.written out.new) (K.faults out.old) (K.faults out.new) }
+    ensures { RanBoth BoardCommand.Check image.now board.now result (K.written out.old) (K.written out.new) (K.faults out.old) (K.faults out.new) }
 {
     match check_text(alloc, image, board) {
         Ok(text) => match write_all(out, text.as_bytes()) {
@@ -53,7 +53,7 @@ fn with_both<K: Sink>(
     board: Board,
     out: &mut K,
 ) -> QuickEnd
-    ensures { Ran (board_outcome what (Ok (image, board))) result (K.written out.old) (K.written out.new) (K.faults out.old) (K.faults out.new) }
+    ensures { RanBoth what image board result (K.written out.old) (K.written out.new) (K.faults out.old) (K.faults out.new) }
 {
     match what {
         BoardCommand::Check => check(alloc, &image, &board, out),
@@ -68,7 +68,7 @@ fn with_image<K: Sink>(
     text: &[u8],
     out: &mut K,
 ) -> QuickEnd
-    ensures { Ran (board_outcome what (beside image (board_of text.now))) result (K.written out.old) (K.written out.new) (K.faults out.old) (K.faults out.new) }
+    ensures { RanJudged what (beside image (board_of text.now)) result (K.written out.old) (K.written out.new) (K.faults out.old) (K.faults out.new) }
 {
     match board(alloc, text) {
         Ok(board) => with_both(alloc, what, image, board, out),
@@ -86,7 +86,7 @@ pub fn on_board<K: Sink>(
     out: &mut K,
 ) -> QuickEnd
     requires { length image.now ≤ TEXT_LIMIT }
-    ensures { Ran (board_outcome what (judged image.now board.now)) result (K.written out.old) (K.written out.new) (K.faults out.old) (K.faults out.new) }
+    ensures { RanJudged what (judged image.now board.now) result (K.written out.old) (K.written out.new) (K.faults out.old) (K.faults out.new) }
 {
     match load(alloc, image) {
         Ok(image) => with_image(alloc, what, image, board, out),

@@ -7,6 +7,7 @@ use board_gen::{ScriptFault, ScriptKind};
 use chip_hist::history::History;
 use chip_sheet::stop::ChipStop;
 use ihex::{HexFault, HexKind};
+use link_script::ScriptLinks;
 use std::alloc::{AllocError, Global};
 
 /// Why a command did not do what its words ask. Operands count from 1.
@@ -59,6 +60,8 @@ pub struct QuickEnd {
     pub status: u8,
     /// What happened on the chip's bus and its links, empty where the command made no event.
     pub history: History,
+    /// The scripted peers of a run on them, where they were made.
+    pub script: Option<ScriptLinks>,
     /// How the command ended.
     pub end: EndKind,
     ghost status_of_end: { status ≡ status_of end },

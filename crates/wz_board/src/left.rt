@@ -17,10 +17,12 @@ const WEIGHT_LIMIT: u64 = 33_554_432;
 pub fn ended(end: EndKind, history: History) -> QuickEnd
     ensures end { result.end ≡ end }
     ensures past { result.history.past ≡ history.past }
+    ensures script { result.script ≡ None }
 {
     QuickEnd {
         status: status_of(end),
         history,
+        script: None,
         end,
     }
 }
@@ -29,6 +31,7 @@ pub fn ended(end: EndKind, history: History) -> QuickEnd
 pub fn nothing_ran(alloc: Global, end: EndKind) -> QuickEnd
     ensures end { result.end ≡ end }
     ensures past { result.history.past ≡ [] }
+    ensures script { result.script ≡ None }
     ensures legal { Legal no_starts result.history.past }
 {
     ended(end, History::new(alloc, WEIGHT_LIMIT))
@@ -43,6 +46,7 @@ pub fn end_refused<K: Sink>(
 ) -> QuickEnd
     ensures adds { AddsLine refusal result.end (K.written out.old) (K.written out.new) }
     ensures past { result.history.past ≡ history.past }
+    ensures script { result.script ≡ None }
     ensures faults { RisesOnly (result.end ≡ EndKind.WriteFault) (K.faults out.old) (K.faults out.new) }
 {
     match fault_text(alloc, refusal) {

@@ -11,5 +11,6 @@ returns g c =
     record {
       shows = rw none (line_shown c.args.refusal c.end_refused.result.end _ _ c.end_refused.ensures.adds);
       legal = subst (λ (p : Past). Legal no_starts p) (sym none) tt;
+      script = c.end_refused.ensures.script;
       causes = c.end_refused.ensures.faults;
     }
