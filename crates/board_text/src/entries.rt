@@ -7,15 +7,14 @@ ghost use Rattle.board_text.specs.Entries.{byte_text, bytes_text, address_text, 
 use crate::answers::digit;
 use board_bus::{BusAnswer, BusEvent};
 use chip_sheet::event::{Addr, Event, LinkWhat};
-use itoa::Buffer;
 use std::alloc::{AllocError, Global};
 
 // Adds a number in decimal.
 fn push_decimal(text: &mut Vec<u8>, n: u32) -> Result<(), AllocError>
     ensures { OnOk result (text.new.items ≡ text.old.items ++ decimal n) }
 {
-    let mut buffer = Buffer::new();
-    text.extend_from_slice(buffer.format(n).as_bytes())
+    let digits = format!(in *text.allocator(); "{n}")?;
+    text.extend_from_slice(digits.as_bytes())
 }
 
 // Adds bytes, each as two hexadecimal digits.
