@@ -1,7 +1,7 @@
 -- A list made of parts, read from its front.
 use Rattle.std.proofs.Common.{◌≡◌, List, [], ◌∷◌, ◌++◌, Option, Some, None, option_map, refl, sym, ap, ◌∙◌, append_assoc}
 use Rattle.std.specs.Option.{option_and_then}
-use Rattle.board_gen.specs.Tokens.{each}
+use Rattle.board_read.specs.Lists.{each}
 
 -- the answer for what is left, behind what is done
 abbrev pub with_front : {B : Type 0} → List B → Option (List B) → Option (List B)

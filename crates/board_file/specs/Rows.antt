@@ -2,7 +2,7 @@
 -- not, and the values that it may have. Which tables they stand in is told where those are read.
 use Rattle.std.specs.Prelude.{ℕ, List, [], ◌∷◌, Option, Result}
 use Rattle.toml.specs.Data.{Data, Members, get_member}
-use Rattle.board_gen.specs.Numbers.{address}
+use Rattle.board_read.specs.Numbers.{address}
 use Rattle.board_file.specs.declared.fault.Key.{Key}
 use Rattle.board_file.specs.declared.fault.Key.TheVariants.{TxStart, RxStart, Events, Cycles, Chip, Host, Addr, Port, HostPort}
 use Rattle.board_file.specs.declared.fault.KeyKind.{KeyKind}

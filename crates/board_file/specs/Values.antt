@@ -1,8 +1,8 @@
 -- What the value of a key says, or what is wrong with it.
 use Rattle.std.specs.Prelude.{ℕ, ◌==◌, ◌&&◌, nat_le, ℤ, pos, negsuc, List, [], ◌∷◌, length, Option, None, Some, ok_or, option_map, option_and_then, Result, Ok, Err, if◌then◌else◌}
 use Rattle.toml.specs.Data.{Data, Items, no_items, item, as_integer, as_str, as_array}
-use Rattle.board_gen.specs.Tokens.{each}
-use Rattle.board_gen.specs.Links.{bytes}
+use Rattle.board_read.specs.Lists.{each}
+use Rattle.board_read.specs.Bytes.{bytes}
 use Rattle.board_file.specs.declared.fault.KeyKind.{KeyKind}
 use Rattle.board_file.specs.declared.fault.KeyKind.TheVariants.{Missing, WrongType, OutOfRange, BadText}
 use Rattle.board_file.specs.Judged.{◌>>=◌}

@@ -10,10 +10,6 @@ use Rattle.board_file.specs.declared.fault.BoardFault.{BoardFault}
 use Rattle.board_file.specs.declared.fault.BoardError.{BoardError}
 use Rattle.board_file.specs.declared.fault.BoardError.TheVariants.{Fault, NoMemory}
 
--- The texts that these references show.
-abbrev pub texts : List (Bor (List ℕ)) → List (List ℕ)
-texts = map (λ t. t.now)
-
 -- The tables that these references show.
 abbrev pub tables : List (Bor (BTreeMap (String Global) Value)) → List Members
 tables = map (λ t. table_view t.now)

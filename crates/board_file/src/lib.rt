@@ -17,6 +17,3 @@ mod values;
 pub use boards::board;
 pub use fault::{BoardError, BoardFault, Key, KeyKind};
 pub use setup::Board;
-
-#[cfg(test)]
-mod tests;

@@ -1,7 +1,7 @@
 // Keys that several tables have, or several kinds of which are alike.
 ghost use Rattle.std.specs.Prelude.{◌≡◌, ◌≤◌, IfOk};
 ghost use Rattle.toml.specs.View.{view, table_view};
-ghost use Rattle.board_gen.specs.Numbers.{address};
+ghost use Rattle.board_read.specs.Numbers.{address};
 ghost use Rattle.board_file.specs.Rows.{number_or, port, addr_row, route_host_row};
 ghost use Rattle.board_file.specs.Judged.{faulted};
 ghost use Rattle.board_file.specs.Values.{text};
@@ -69,7 +69,7 @@ fn address(alloc: Global, value: &Value, key: Key, entry: u32) -> Result<[u8; 4]
     let Some(text) = value.as_str() else {
         return Err(fault(key, entry, KeyKind::WrongType));
     };
-    match board_gen::numbers::address(alloc, text.as_bytes())? {
+    match board_read::numbers::address(alloc, text.as_bytes())? {
         Some(ip) => Ok(ip),
         None => Err(fault(key, entry, KeyKind::BadText)),
     }

@@ -2,10 +2,10 @@
 ghost use Rattle.std.specs.Prelude.{◌≡◌, ◌≤◌, ◌<◌, ◌^◌, IfOk, IfSome, option_map, map};
 ghost use Rattle.toml.specs.Data.{as_integer, as_str};
 ghost use Rattle.toml.specs.View.{view};
-ghost use Rattle.board_gen.specs.Numbers.{address};
-ghost use Rattle.board_gen.specs.Tokens.{each};
+ghost use Rattle.board_read.specs.Lists.{each};
+ghost use Rattle.board_read.specs.Texts.{texts};
 ghost use Rattle.board_file.specs.Values.{ranged, number, items, all_of, chunk};
-ghost use Rattle.board_file.specs.Views.{texts, bytes_of};
+ghost use Rattle.board_file.specs.Views.{bytes_of};
 
 use crate::fault::KeyKind;
 use std::alloc::{AllocError, Global};
@@ -115,7 +115,7 @@ pub fn all_ranged(alloc: Global, zs: &[i64], most: u32) -> Result<Option<Vec<u32
 fn chunk(alloc: Global, text: &str, most: usize) -> Result<Option<Vec<u8>>, AllocError>
     ensures { IfOk result (λ v. option_map (λ b. b.items) v ≡ chunk most text.now) }
 {
-    match board_gen::links::bytes(alloc, text.as_bytes())? {
+    match board_read::bytes::bytes(alloc, text.as_bytes())? {
         Some(bytes) if bytes.len() <= most => Ok(Some(bytes)),
         _ => Ok(None),
     }

@@ -1,9 +1,9 @@
 -- The steps of tokens, read from their front.
-use Rattle.std.proofs.Common.{◌≡◌, ℕ, List, [], ◌∷◌, Option, Some, None, option_map, refl, sym, ap, ◌∙◌}
+use Rattle.std.proofs.Common.{◌≡◌, ℕ, List, ◌∷◌, Option, Some, None, option_map, refl, ap, ◌∙◌}
 use Rattle.std.specs.Prelude.{IsSome}
 use Rattle.std.specs.Option.{option_and_then}
 use Rattle.chip_sheet.specs.Replay.{Step}
-use Rattle.board_gen.specs.Tokens.{tokens, token_step, steps}
+use Rattle.board_gen.specs.Tokens.{token_step, steps}
 
 -- the first is a step
 pub steps_on : (words : List (List ℕ)) (word : List ℕ) (more : List (List ℕ)) (step : Step) → words ≡ word ∷ more → token_step word ≡ Some step

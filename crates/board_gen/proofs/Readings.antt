@@ -1,7 +1,6 @@
 -- What a text comes to, by what was found of it.
 use Rattle.std.proofs.Common.{◌≡◌, ℕ, ◌+◌, List, [], ◌∷◌, map, append-nil, Option, None, Some, Result, Ok, Err, refl, sym, ap, ◌∙◌, arith}
 use Rattle.std.specs.Prelude.{IsSome, unwrap_or}
-use Rattle.chip_sheet.specs.Past.{Past}
 use Rattle.chip_sheet.specs.Replay.{Step}
 use Rattle.wz_base.proofs.Gathered.{appends_none}
 use Rattle.board_gen.specs.declared.fault.ScriptFault.{ScriptFault}

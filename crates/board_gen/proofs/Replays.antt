@@ -10,8 +10,8 @@ use Rattle.chip_sheet.specs.Stops.{stop}
 use Rattle.chip_sheet.specs.LinkCalls.{fits}
 use Rattle.chip_sheet.specs.Replay.{Step, Asks, Happens, Told, Ending, AllTaken, StoppedBy, NotDue, answered, told, with_answer}
 use Rattle.board_gen.proofs.ToldLaws.{asks, happens, told_joined}
-use Rattle.board_gen.specs.Shown.{Shown, followed, line_shown, shown_from}
-use Rattle.board_gen.specs.Replayed.{all_steps, EndsAs, IsTold, LinesAreTold}
+use Rattle.board_gen.specs.Shown.{followed, line_shown, shown_from}
+use Rattle.board_gen.specs.Replayed.{all_steps, IsTold, LinesAreTold}
 
 asks_stays : (clear : Option ChipStop) (past : Past) (a : BusAnswer) (front whole : Told) → (front.ending ≢ AllTaken → whole ≡ front) → (asks clear past a front).ending ≢ AllTaken → asks clear past a whole ≡ asks clear past a front
 asks_stays None past a front whole stays not = ap (with_answer a) (stays not)

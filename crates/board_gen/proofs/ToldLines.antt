@@ -1,6 +1,5 @@
 -- Lines that are run one after another.
-use Rattle.std.proofs.Common.{◌≡◌, ◌≢◌, ℕ, ◌+◌, List, [], ◌∷◌, ◌++◌, map, append_assoc, append-nil, Option, None, Some, Result, Ok, Err, refl, sym, ap, ◌∙◌, subst, arith}
-use Rattle.std.specs.Prelude.{IsSome, unwrap_or}
+use Rattle.std.proofs.Common.{◌≡◌, ◌≢◌, ℕ, ◌+◌, List, [], ◌∷◌, ◌++◌, append_assoc, append-nil, Option, refl, sym, ap, ◌∙◌, subst, arith}
 use Rattle.chip_sheet.specs.declared.stop.ChipStop.{ChipStop}
 use Rattle.chip_sheet.specs.Past.{Past, GoesOn}
 use Rattle.chip_sheet.specs.Streams.{Starts}
@@ -9,9 +8,7 @@ use Rattle.board_gen.proofs.ToldLaws.{told_goes_on}
 use Rattle.wz_base.specs.Lines.{Gathers}
 use Rattle.wz_base.specs.Whole.{Appends, AppendsFront}
 use Rattle.wz_base.proofs.Gathered.{appends_none, front_before, gathers_none, gathers_then, gathers_cut, gathers_front, gathers_stopped, gathers_written}
-use Rattle.board_text.specs.Answers.{joined, with_end}
-use Rattle.board_text.specs.Stops.{stop_line}
-use Rattle.board_gen.specs.declared.fault.ScriptFault.{ScriptFault}
+use Rattle.board_text.specs.Answers.{joined}
 use Rattle.board_gen.specs.declared.fault.ScriptKind.TheVariants as kind
 use Rattle.board_gen.specs.declared.end.ScriptStop.{ScriptStop}
 use Rattle.board_gen.specs.declared.end.ScriptStop.TheVariants.{Done, Fault, Chip, WriteFault, NoMemory}

@@ -1,5 +1,5 @@
 -- A step weighs at most half of the bytes of its token and of one behind it.
-use Rattle.std.proofs.Common.{arith, ◌≡◌, ◌==◌, ℕ, suc, ◌+◌, ◌*◌, ◌/◌, ◌≤◌, Bool, true, false, cond, List, [], ◌∷◌, length, Option, None, Some, Result, Ok, Err, option_map, refl, sym, ap, ◌∙◌}
+use Rattle.std.proofs.Common.{arith, ◌≡◌, ◌==◌, ℕ, ◌+◌, ◌*◌, ◌≤◌, Bool, true, false, cond, List, [], ◌∷◌, length, Option, None, Some, Result, Ok, Err, option_map, refl, sym, ap, ◌∙◌}
 use Rattle.std.specs.List.{slice_split, onto_first}
 use Rattle.hex.specs.Hex.{decode_of, decode_sized}
 use Rattle.hex.specs.declared.error.FromHexError.{FromHexError}
@@ -15,9 +15,10 @@ use Rattle.chip_sheet.specs.Past.{Past}
 use Rattle.chip_sheet.specs.Streams.{Starts}
 use Rattle.chip_hist.specs.Log.{begun, link_data, weight_of}
 use Rattle.board_gen.specs.Session.{Takes}
-use Rattle.board_gen.specs.Links.{bare, bytes, bytes_read, counted, peer, accepted, datagram, datagram_of, what, socket, happens, link_parts}
-use Rattle.board_gen.specs.Numbers.{count}
-use Rattle.board_gen.specs.Tokens.{byte_read, letter, token_step}
+use Rattle.board_gen.specs.Links.{bare, peer, datagram_of, what, socket, happens, link_parts}
+use Rattle.board_read.specs.Bytes.{bytes_read}
+use Rattle.board_read.specs.Numbers.{count}
+use Rattle.board_gen.specs.Tokens.{byte_read, token_step}
 
 -- What a step adds to the weight of a history.
 abbrev pub step_weight : Step → ℕ

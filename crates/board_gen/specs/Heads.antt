@@ -1,5 +1,5 @@
 -- The beginning of a script as the program has it.
-use Rattle.std.specs.Prelude.{◌≡◌, ℕ, List, Result, Ok, Err}
+use Rattle.std.specs.Prelude.{Result}
 use Rattle.chip_sheet.specs.Streams.{Starts}
 use Rattle.board_gen.specs.declared.fault.ScriptFault.{ScriptFault}
 use Rattle.board_gen.specs.declared.head.Head.{Head}

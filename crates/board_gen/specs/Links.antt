@@ -1,14 +1,13 @@
 -- Link tokens of scripts: `@n:` and what the link of socket n did.
-use Rattle.std.specs.Prelude.{ℕ, ◌-◌, nat_le, ◌==◌, ◌&&◌, List, [], ◌∷◌, Option, None, Some, option_map, Result, Ok, Err, codes, if◌then◌else◌}
+use Rattle.std.specs.Prelude.{ℕ, ◌-◌, nat_le, ◌==◌, ◌&&◌, List, [], ◌∷◌, Option, None, Some, option_map, codes, if◌then◌else◌}
 use Rattle.std.specs.List.{slice_split}
 use Rattle.std.specs.Str.{bytes_eq}
-use Rattle.hex.specs.Hex.{decode_of}
-use Rattle.hex.specs.declared.error.FromHexError.{FromHexError}
 use Rattle.chip_sheet.specs.declared.event.Addr.{Addr}
 use Rattle.chip_sheet.specs.declared.event.LinkEntry.{LinkEntry}
 use Rattle.chip_sheet.specs.declared.event.LinkEntry.TheVariants.{Linked, Accepted, Refused, TimedOut, Took, Got, Datagram, Ended, Shut, Failed, Dropped}
 use Rattle.chip_sheet.specs.Replay.{Step, Happens}
-use Rattle.board_gen.specs.Numbers.{port, count, address}
+use Rattle.board_read.specs.Numbers.{port, count, address}
+use Rattle.board_read.specs.Bytes.{bytes}
 
 -- The words that stand alone.
 abbrev pub bare : List ℕ → Option LinkEntry
@@ -20,14 +19,6 @@ bare word =
     if bytes_eq word (codes "shut") then Some Shut else
     if bytes_eq word (codes "failed") then Some Failed else
     if bytes_eq word (codes "dropped") then Some Dropped else None
-
--- The bytes of hexadecimal digits, an even number of them or none.
-abbrev pub bytes_read : Result (List ℕ) FromHexError → Option (List ℕ)
-bytes_read (Ok bytes) = Some bytes
-bytes_read (Err e) = None
-
-abbrev pub bytes : List ℕ → Option (List ℕ)
-bytes text = bytes_read (decode_of text)
 
 -- `took:K` and `got:HEX`.
 abbrev pub counted : List ℕ → List ℕ → Option LinkEntry

@@ -7,7 +7,7 @@ use Rattle.chip_sheet.specs.Streams.{Starts}
 use Rattle.chip_sheet.specs.Replay.{Step}
 use Rattle.board_gen.specs.declared.fault.ScriptFault.{ScriptFault}
 use Rattle.board_gen.specs.declared.fault.ScriptKind.TheVariants.{BadHead, BadToken}
-use Rattle.board_gen.specs.Numbers.{pointer}
+use Rattle.board_read.specs.Numbers.{pointer}
 use Rattle.board_gen.specs.Tokens.{tokens, steps}
 
 abbrev pub cut_at : Option ℕ → List ℕ → List ℕ

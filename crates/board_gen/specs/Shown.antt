@@ -1,5 +1,5 @@
 -- What a script comes to, line by line.
-use Rattle.std.specs.Prelude.{◌≡◌, ℕ, ◌+◌, List, [], ◌∷◌, ◌++◌, map, unwrap_or, Option, Result, Ok, Err}
+use Rattle.std.specs.Prelude.{◌≡◌, ℕ, ◌+◌, List, [], ◌∷◌, ◌++◌, Option, Result, Ok, Err}
 use Rattle.chip_sheet.specs.Past.{Past, GoesOn}
 use Rattle.chip_sheet.specs.Streams.{Starts}
 use Rattle.chip_sheet.specs.Replay.{Step, Told, Ending, AllTaken, StoppedBy, NotDue, told}

@@ -1,10 +1,11 @@
 -- Tokens of scripts: L and H, the select line going low and high, two hexadecimal digits, a byte, ?, a look, and link tokens.
-use Rattle.std.specs.Prelude.{ℕ, Bool, true, false, not, ◌==◌, List, [], ◌∷◌, filter, length, slice_index, Option, None, Some, option_map, option_and_then, Result, Ok, Err, if◌then◌else◌}
+use Rattle.std.specs.Prelude.{ℕ, Bool, true, false, not, ◌==◌, List, [], ◌∷◌, filter, length, slice_index, Option, None, Some, Result, Ok, Err, if◌then◌else◌}
 use Rattle.std.specs.List.{slice_split}
 use Rattle.hex.specs.Hex.{decode_sized}
 use Rattle.hex.specs.declared.error.FromHexError.{FromHexError}
 use Rattle.board_bus.specs.declared.event.BusEvent.TheVariants.{Select, Byte, Look}
 use Rattle.chip_sheet.specs.Replay.{Step, Asks}
+use Rattle.board_read.specs.Lists.{each}
 use Rattle.board_gen.specs.Links.{link}
 
 -- The tokens of one byte: 76 is L, 72 is H, 63 is ?.
@@ -31,11 +32,6 @@ is_token text = not (length text == 0)
 -- The tokens of a line stand between spaces: 32 is a space.
 abbrev pub tokens : List ℕ → List (List ℕ)
 tokens line = filter is_token (slice_split (λ b. b == 32) line)
-
--- What f gives of each, where it gives something of all.
-abbrev pub each : {A B : Type 0} → (A → Option B) → List A → Option (List B)
-each f [] = Some []
-each f (x ∷ xs) = option_and_then (λ y. option_map (λ ys. y ∷ ys) (each f xs)) (f x)
 
 -- The steps of tokens, where each is one.
 abbrev pub steps : List (List ℕ) → Option (List Step)

@@ -1,6 +1,5 @@
 -- What the program's values say, as the definitions of scripts have them.
-use Rattle.std.specs.Prelude.{◌≡◌, ℕ, List, map, Result, Ok, Err}
-use Rattle.std.specs.Borrow.{Bor}
+use Rattle.std.specs.Prelude.{◌≡◌, Result, Err}
 use Rattle.chip_sheet.specs.declared.event.LinkEntry.TheVariants as entry
 use Rattle.chip_sheet.specs.declared.event.LinkEntry.{LinkEntry}
 use Rattle.chip_sheet.specs.Replay.{Step, Asks, Happens}
@@ -11,10 +10,6 @@ use Rattle.board_gen.specs.declared.token.Token.TheVariants.{Bus, Link}
 use Rattle.board_gen.specs.declared.fault.ScriptFault.{ScriptFault}
 use Rattle.board_gen.specs.declared.fault.ReadError.{ReadError}
 use Rattle.board_gen.specs.declared.fault.ReadError.TheVariants.{Fault, NoMemory}
-
--- The texts that these slices show.
-abbrev pub texts : List (Bor (List ℕ)) → List (List ℕ)
-texts = map (λ t. t.now)
 
 -- What a link token says happened.
 abbrev pub entry_of : LinkToken → LinkEntry

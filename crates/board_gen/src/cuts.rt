@@ -1,19 +1,9 @@
 // Texts cut into lines and tokens, one after another, without memory.
-ghost use Rattle.std.specs.Prelude.{◌≡◌, ◌==◌, ◌<◌, ◌≤◌, ◌+◌, ◌∷◌, [], length, IfOk, IfSome, MatchOption};
+ghost use Rattle.std.specs.Prelude.{◌≡◌, ◌==◌, ◌<◌, ◌≤◌, ◌+◌, ◌∷◌, [], length, IfSome, MatchOption};
 ghost use Rattle.std.specs.List.{slice_split, position};
 ghost use Rattle.std.specs.Str.Lines.{strip_carriage_return};
 ghost use Rattle.board_gen.specs.Script.{uncommented, script_lines};
 ghost use Rattle.board_gen.specs.Tokens.{tokens};
-ghost use Rattle.board_gen.specs.Views.{texts};
-
-use std::alloc::{AllocError, Global};
-
-/// The parts of a text between the bytes `at`.
-pub fn parts(alloc: Global, text: &[u8], at: u8) -> Result<Vec<&[u8]>, AllocError>
-    ensures { IfOk result (λ v. texts v.items ≡ slice_split (λ b. b == at) text.now) }
-{
-    text.split(|b| *b == at).collect(alloc)
-}
 
 // The first place of a byte in a text.
 fn place_of(text: &[u8], byte: u8) -> Option<usize>

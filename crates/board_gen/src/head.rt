@@ -6,7 +6,7 @@ ghost use Rattle.board_gen.specs.Tokens.{tokens};
 
 use crate::cuts::{first_line, first_token};
 use crate::fault::{ScriptFault, ScriptKind};
-use crate::numbers::pointer;
+use board_read::numbers::pointer;
 
 /// What the first line of a script says.
 #[derive(Clone, Copy, Debug, PartialEq, Eq)]

@@ -1,14 +1,15 @@
 // Link tokens: `@n:` and what the link of socket n did.
 ghost use Rattle.std.specs.Prelude.{◌≡◌, ◌<◌, IfOk, IfSome, option_map};
 ghost use Rattle.std.specs.Str.{bytes_eq};
-ghost use Rattle.board_gen.specs.Links.{bare, bytes, counted, peer, accepted, datagram, what, socket, link_parts, link};
-ghost use Rattle.board_gen.specs.Views.{texts, entry_of, step_of};
+ghost use Rattle.board_gen.specs.Links.{bare, counted, peer, accepted, datagram, what, socket, link_parts, link};
+ghost use Rattle.board_gen.specs.Views.{entry_of, step_of};
+ghost use Rattle.board_read.specs.Texts.{texts};
 
-use crate::cuts::parts;
-use crate::numbers::{address, count, port};
 use crate::token::{LinkStep, LinkToken, Token};
+use board_read::bytes::bytes;
+use board_read::cuts::parts;
+use board_read::numbers::{address, count, port};
 use chip_sheet::event::Addr;
-use hex::FromHexError;
 use std::alloc::{AllocError, Global};
 
 // The words that stand alone.
@@ -31,21 +32,6 @@ fn bare(word: &[u8]) -> Option<LinkToken>
         Some(LinkToken::Dropped)
     } else {
         None
-    }
-}
-
-/// The bytes of hexadecimal digits, an even number of them or none.
-///
-/// # Errors
-///
-/// Want of memory alone.
-pub fn bytes(alloc: Global, text: &[u8]) -> Result<Option<Vec<u8>>, AllocError>
-    ensures { IfOk result (λ v. option_map (λ b. b.items) v ≡ bytes text.now) }
-{
-    match hex::decode(alloc, text) {
-        Ok(bytes) => Ok(Some(bytes)),
-        Err(FromHexError::OutOfMemory) => Err(AllocError),
-        Err(_) => Ok(None),
     }
 }
 

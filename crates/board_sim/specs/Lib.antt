@@ -6,3 +6,4 @@ pub mod Ends
 pub mod Views
 pub mod Report
 pub mod Traced
+pub mod Exchanges

@@ -1,5 +1,3 @@
 mod Causes
-mod Heads
-mod Listed
+mod Reported
 mod Shown
-mod Used

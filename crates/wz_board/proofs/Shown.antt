@@ -1,23 +1,25 @@
--- A script's end as a command's, and the line of a fault behind the script's text.
-use Rattle.std.proofs.Common.{arith, append-nil, ◌≡◌, ◌≢◌, ℕ, List, [], ◌++◌, Option, None, Some, Result, Err, refl, sym, ap, ◌∙◌, subst}
+-- A script's end as a command's, and the line of a refusal, also behind the script's text.
+use Rattle.std.proofs.Common.{arith, append-nil, ◌≡◌, ◌≢◌, ℕ, List, [], ◌++◌, Option, None, Result, Ok, Err, refl, sym, ap, ◌∙◌, subst}
 use Rattle.chip_sheet.specs.Past.{Past}
+use Rattle.chip_sheet.specs.Legal.{Legal}
 use Rattle.wz_base.specs.Outside.{RisesOnly}
 use Rattle.wz_base.specs.Whole.{Appends, AppendsFront}
 use Rattle.wz_base.proofs.Gathered.{appends_then, appends_none, front_before, front_first, front_then}
+use Rattle.board_file.specs.Boards.{Setup}
 use Rattle.board_gen.specs.declared.fault.ScriptFault.{ScriptFault}
 use Rattle.board_gen.specs.declared.end.ScriptStop.{ScriptStop}
 use Rattle.board_gen.specs.declared.end.ScriptStop.TheVariants as stops
-use Rattle.chip_sheet.specs.Legal.{Legal}
-use Rattle.board_gen.specs.Script.{no_starts}
 use Rattle.board_gen.specs.Shown.{shown}
 use Rattle.board_gen.specs.Shown as script
 use Rattle.wz_board.specs.declared.end.Refusal.{Refusal}
+use Rattle.wz_board.specs.declared.end.Refusal.TheVariants as refusals
 use Rattle.wz_board.specs.declared.end.EndKind.{EndKind}
 use Rattle.wz_board.specs.declared.end.EndKind.TheVariants.{Done, Chip, WriteFault, NoMemory, Refused}
-use Rattle.wz_base.specs.declared.reading.ReadError.{ReadError}
-use Rattle.wz_base.specs.declared.reading.ReadError.TheVariants as reading
-use Rattle.wz_board.specs.Ends.{script_text}
-use Rattle.wz_board.specs.Outcome.{Outcome, end_of, last_line, script_outcome, AddsFault, IsCut, IsLegal, IsOwn, IsWhole, Shows, HasCause, MayRead, NoRoom}
+use Rattle.wz_board.specs.Ends.{fault_text}
+use Rattle.wz_board.specs.declared.end.QuickEnd.{QuickEnd}
+use Rattle.wz_board.specs.declared.words.BoardCommand.{BoardCommand}
+use Rattle.wz_board.specs.declared.words.BoardCommand.TheVariants as boards
+use Rattle.wz_board.specs.Outcome.{Outcome, end_of, last_line, refused, script_outcome, AddsLine, IsCut, IsWhole, Ran, RanJudged, Shows}
 use Rattle.wz_board.proofs.Causes.{rises_as}
 
 -- the text and the line behind it
@@ -43,23 +45,16 @@ plain_shown text stops.WriteFault past old new not it = cut text past old new it
 plain_shown text stops.NoMemory past old new not it = cut text past old new it
 
 -- a fault, whose line is written behind the text
-pub fault_shown : (text : List ℕ) (fault : ScriptFault) (end : EndKind) (past : Past) (old mid new : Option (List ℕ)) → script.Shows (shown text) (stops.Fault fault) past old mid → AddsFault fault end mid new
-    → Shows (script_outcome text) end past old new
+pub fault_shown : (text : List ℕ) (fault : ScriptFault) (end : EndKind) (past : Past) (old mid new : Option (List ℕ)) → script.Shows (shown text) (stops.Fault fault) past old mid
+    → AddsLine (refusals.Script fault) end mid new → Shows (script_outcome text) end past old new
 fault_shown text fault Done past old mid new it adds = absurd adds
 fault_shown text fault (Chip s) past old mid new it adds = absurd adds
 fault_shown text fault WriteFault past old mid new it adds =
-    (([], sym it.1), subst (λ (l : List ℕ). AppendsFront old ((shown text).text ++ l) new) (ap last_line it.0) (front_then old mid new (shown text).text (script_text fault) it.2 adds))
+    (([], sym it.1), subst (λ (l : List ℕ). AppendsFront old ((shown text).text ++ l) new) (ap last_line it.0) (front_then old mid new (shown text).text (fault_text (refusals.Script fault)) it.2 adds))
 fault_shown text fault NoMemory past old mid new it adds =
     (([], sym it.1), subst (λ (m : Option (List ℕ)). AppendsFront old ((shown text).text ++ last_line (shown text).end) m) (sym adds) (front_first old mid (shown text).text (last_line (shown text).end) it.2))
 fault_shown text fault (Refused r) past old mid new it adds =
-    (ap Refused adds.0 ∙ ap end_of it.0, it.1, added text (stops.Fault fault) (script_text fault) old new it.0 refl (appends_then old mid new (shown text).text (script_text fault) it.2 adds.1))
-
-pub own_end : (end : ScriptStop) → IsOwn (end_of end)
-own_end stops.Done = tt
-own_end (stops.Fault fault) = tt
-own_end (stops.Chip s) = tt
-own_end stops.WriteFault = tt
-own_end stops.NoMemory = tt
+    (ap Refused adds.0 ∙ ap end_of it.0, it.1, added text (stops.Fault fault) (fault_text (refusals.Script fault)) old new it.0 refl (appends_then old mid new (shown text).text (fault_text (refusals.Script fault)) it.2 adds.1))
 
 failed : (end : ScriptStop) → end_of end ≡ WriteFault → end ≡ stops.WriteFault
 failed stops.Done is = cc
@@ -75,26 +70,28 @@ end_rises end before now rises = rises_as before now (failed end) (λ is. ap end
 pub cut_none : (o : Outcome) (old : Option (List ℕ)) → IsCut o [] old old
 cut_none o old = ((o.past, sym (append-nil o.past)), (0, omega arith, appends_none old))
 
--- the line of a fault is an end of the command itself
-pub own_fault : (fault : ScriptFault) (end : EndKind) (old new : Option (List ℕ)) → AddsFault fault end old new → IsOwn end
-own_fault fault Done old new adds = absurd adds
-own_fault fault (Chip s) old new adds = absurd adds
-own_fault fault WriteFault old new adds = tt
-own_fault fault NoMemory old new adds = tt
-own_fault fault (Refused r) old new adds = subst (λ (r : Refusal). IsOwn (Refused r)) (sym adds.0) tt
+-- a prefix of the text, and nothing happened
+pub cut_front : (o : Outcome) (old new : Option (List ℕ)) → AppendsFront old o.text new → IsCut o [] old new
+cut_front o old new front = ((o.past, sym (append-nil o.past)), front)
 
--- an empty history
-pub none_legal : (past : Past) → past ≡ [] → IsLegal past
-none_legal past is = record { starts = no_starts; legal = subst (λ (p : Past). Legal no_starts p) (sym is) tt }
+-- the line of a refusal before anything happened
+pub line_shown : (refusal : Refusal) (end : EndKind) (old new : Option (List ℕ)) → AddsLine refusal end old new → Shows (refused refusal) end [] old new
+line_shown refusal Done old new adds = absurd adds
+line_shown refusal (Chip s) old new adds = absurd adds
+line_shown refusal WriteFault old new adds = cut_front (refused refusal) old new adds
+line_shown refusal NoMemory old new adds = subst (λ (m : Option (List ℕ)). IsCut (refused refusal) [] old m) (sym adds) (cut_none (refused refusal) old)
+line_shown refusal (Refused r) old new adds = (ap Refused adds.0, refl, adds.1)
 
-pub may_any : (files : Option (List ℕ → Option (List ℕ))) (name : List ℕ) → MayRead files name NoRoom
-may_any None name = tt
-may_any (Some held) name = tt
-
--- memory was not there, and no call failed
-pub no_room : {T : Type 0} (r : Result T ReadError) (misses misses' faults faults' : ℕ) → r ≡ Err reading.NoMemory → RisesOnly (r ≡ Err reading.NoFile) misses misses'
-    → RisesOnly (r ≡ Err reading.ReadFault) faults faults' → HasCause misses misses' faults faults' NoRoom
-no_room r misses misses' faults faults' is missed failed = record {
-  missed = rises_as misses misses' (λ e. cc) (λ e. cc) missed;
-  failed = rises_as faults faults' (λ e. cc) (λ e. cc) failed;
+-- memory ran out before anything happened
+pub none_ran : (o : Outcome) (r : QuickEnd) (old : Option (List ℕ)) (faults : ℕ) → r.end ≡ NoMemory → r.history.past ≡ [] → r.script ≡ None → Ran o r old old faults faults
+none_ran o r old faults is past script = record {
+  shows = rw (is, past) (cut_none o old);
+  legal = subst (λ (p : Past). Legal o.starts p) (sym past) tt;
+  script = script;
+  causes = record { later = omega arith; rose = λ e. cc (sym is ∙ e); still = λ no. refl };
 }
+
+pub none_ran_board : (what : BoardCommand) (judged : Result (List ℕ × Setup) Refusal) (r : QuickEnd) (old : Option (List ℕ)) (faults : ℕ) → r.end ≡ NoMemory → r.history.past ≡ [] → r.script ≡ None
+    → RanJudged what judged r old old faults faults
+none_ran_board boards.Check (Ok both) r old faults is past script = none_ran _ r old faults is past script
+none_ran_board what (Err refusal) r old faults is past script = none_ran _ r old faults is past script

@@ -1,6 +1,9 @@
 -- Statuses and texts of the ends of a command.
 use Rattle.std.specs.Prelude.{ℕ, List, [], ◌∷◌, ◌++◌, codes}
 use Rattle.std.specs.Fmt.{decimal}
+use Rattle.board_file.specs.declared.fault.BoardFault.{BoardFault}
+use Rattle.board_file.specs.Keys.{word}
+use Rattle.board_file.specs.Kinds.{kind_word}
 use Rattle.board_gen.specs.declared.fault.ScriptFault.{ScriptFault}
 use Rattle.board_gen.specs.declared.fault.ScriptKind.{ScriptKind}
 use Rattle.board_gen.specs.declared.fault.ScriptKind.TheVariants.{BadHead, BadToken, NotDue}
@@ -8,7 +11,7 @@ use Rattle.ihex.specs.declared.fault.HexFault.{HexFault}
 use Rattle.ihex.specs.declared.fault.HexKind.{HexKind}
 use Rattle.ihex.specs.declared.fault.HexKind.TheVariants.{AfterEnd, BadStart, BadDigit, BadLength, BadSum, BadType, OutOfFlash, NoEnd}
 use Rattle.wz_board.specs.declared.end.Refusal.{Refusal}
-use Rattle.wz_board.specs.declared.end.Refusal.TheVariants.{Usage, NoFile, ReadFault, TooLong, Hex, Script}
+use Rattle.wz_board.specs.declared.end.Refusal.TheVariants.{Usage, NoFile, ReadFault, TooLong, Hex, Board, Script}
 use Rattle.wz_board.specs.declared.end.EndKind.{EndKind}
 use Rattle.wz_board.specs.declared.end.EndKind.TheVariants.{Done, Chip, WriteFault, NoMemory, Refused}
 
@@ -17,11 +20,12 @@ abbrev pub status_of : EndKind → ℕ
 status_of Done = 0
 status_of (Refused Usage) = 2
 status_of (Refused (Hex fault)) = 3
-status_of (Refused NoFile) = 5
-status_of (Refused ReadFault) = 5
+status_of (Refused (Board fault)) = 4
+status_of (Refused (NoFile operand)) = 5
+status_of (Refused (ReadFault operand)) = 5
 status_of WriteFault = 6
 status_of NoMemory = 7
-status_of (Refused TooLong) = 11
+status_of (Refused (TooLong operand)) = 11
 status_of (Refused (Script fault)) = 14
 status_of (Chip s) = 20
 
@@ -50,20 +54,16 @@ script_kind_text NotDue = codes "NotDue"
 abbrev pub script_text : ScriptFault → List ℕ
 script_text fault = codes "fault script " ++ script_kind_text fault.kind ++ 32 ∷ (decimal fault.line ++ 10 ∷ [])
 
--- The line that a refusal prints; 1 is the number of the operand.
+-- The line that the fault of a board file prints.
+abbrev pub board_text : BoardFault → List ℕ
+board_text fault = codes "fault board " ++ word fault.key ++ 32 ∷ (decimal fault.entry ++ 32 ∷ (kind_word fault.kind ++ 10 ∷ []))
+
+-- The line that a refusal prints; operands count from 1.
 abbrev pub fault_text : Refusal → List ℕ
 fault_text Usage = codes "fault usage\n"
-fault_text NoFile = codes "fault nofile 1\n"
-fault_text ReadFault = codes "fault read 1\n"
-fault_text TooLong = codes "fault long 1\n"
+fault_text (NoFile operand) = codes "fault nofile " ++ (decimal operand ++ 10 ∷ [])
+fault_text (ReadFault operand) = codes "fault read " ++ (decimal operand ++ 10 ∷ [])
+fault_text (TooLong operand) = codes "fault long " ++ (decimal operand ++ 10 ∷ [])
 fault_text (Hex fault) = hex_text fault
+fault_text (Board fault) = board_text fault
 fault_text (Script fault) = script_text fault
-
--- A refusal whose line has no values.
-abbrev pub IsPlain : Refusal → Type 0
-IsPlain Usage = Unit {0}
-IsPlain NoFile = Unit {0}
-IsPlain ReadFault = Unit {0}
-IsPlain TooLong = Unit {0}
-IsPlain (Hex fault) = ⊥
-IsPlain (Script fault) = ⊥

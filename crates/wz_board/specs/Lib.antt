@@ -1,4 +1,5 @@
 pub mod Words
-pub mod Listing
 pub mod Ends
+pub mod Checked
+pub mod Reads
 pub mod Outcome

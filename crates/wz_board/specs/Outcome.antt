@@ -1,24 +1,28 @@
 -- What a command comes to.
-use Rattle.std.specs.Prelude.{◌≡◌, ◌<◌, ◌≤◌, ℕ, List, [], ◌++◌, length, Option, None, Some, IfSome, IsSomeAnd}
+use Rattle.std.specs.Prelude.{◌≡◌, ℕ, List, [], ◌++◌, Option, None, Some, Result, Ok, Err, MatchResult}
 use Rattle.chip_sheet.specs.Past.{Past, GoesOn}
 use Rattle.chip_sheet.specs.Legal.{Legal}
 use Rattle.chip_sheet.specs.Streams.{Starts}
 use Rattle.wz_base.specs.Outside.{RisesOnly}
 use Rattle.wz_base.specs.Whole.{Appends, AppendsFront}
+use Rattle.wz_base.specs.declared.reading.ReadError.{ReadError}
+use Rattle.wz_base.specs.declared.reading.ReadError.TheVariants as errors
 use Rattle.wz_board.specs.declared.end.Refusal.{Refusal}
 use Rattle.wz_board.specs.declared.end.Refusal.TheVariants as refusals
 use Rattle.wz_board.specs.declared.end.EndKind.{EndKind}
 use Rattle.wz_board.specs.declared.end.EndKind.TheVariants.{Done, Chip, WriteFault, NoMemory, Refused}
 use Rattle.wz_board.specs.declared.end.QuickEnd.{QuickEnd}
-use Rattle.wz_board.specs.declared.quick.TheConstants.{TEXT_LIMIT}
-use Rattle.wz_board.specs.Ends.{fault_text, script_text}
-use Rattle.ihex.specs.declared.fault.HexFault.{HexFault}
-use Rattle.ihex.specs.Flash.{written}
-use Rattle.flash.specs.Image.{erased}
-use Rattle.ihex.specs.Text.{data_in, fault_in}
-use Rattle.wz_board.specs.Listing.{listing}
-use Rattle.wz_board.specs.Words.{Asked, Bus, ListOf, operand_of}
-use Rattle.board_gen.specs.declared.fault.ScriptFault.{ScriptFault}
+use Rattle.wz_board.specs.declared.words.TextCommand.{TextCommand}
+use Rattle.wz_board.specs.declared.words.TextCommand.TheVariants as texts
+use Rattle.wz_board.specs.declared.words.BoardCommand.{BoardCommand}
+use Rattle.wz_board.specs.declared.words.BoardCommand.TheVariants as boards
+use Rattle.wz_board.specs.Ends.{fault_text}
+use Rattle.board_list.specs.Listing.{listing}
+use Rattle.wz_board.specs.Checked.{check_text, judged, judged_image}
+use Rattle.wz_board.specs.Reads.{Counts, Reading, WasRead}
+use Rattle.wz_board.specs.Words.{Asked, OnText, OnBoard, Help, forms}
+use Rattle.ihex.specs.Text.{fault_in}
+use Rattle.board_file.specs.Boards.{Setup}
 use Rattle.board_gen.specs.declared.end.ScriptStop.{ScriptStop}
 use Rattle.board_gen.specs.declared.end.ScriptStop.TheVariants as stops
 use Rattle.board_gen.specs.Script.{no_starts}
@@ -32,9 +36,13 @@ pub record Outcome : Type 0 where
   pub past : Past
   pub text : List ℕ
 
+-- A command that ends so, with this text, before anything happened on the chip.
+abbrev pub at_rest : EndKind → List ℕ → Outcome
+at_rest end text = record { end = end; starts = no_starts; past = []; text = text }
+
 -- A refusal before anything happened.
 abbrev pub refused : Refusal → Outcome
-refused r = record { end = Refused r; starts = no_starts; past = []; text = fault_text r }
+refused refusal = at_rest (Refused refusal) (fault_text refusal)
 
 -- The end of a command that a script's end is.
 abbrev pub end_of : ScriptStop → EndKind
@@ -49,71 +57,33 @@ abbrev pub last_line : ScriptStop → List ℕ
 last_line (stops.Fault fault) = fault_text (refusals.Script fault)
 last_line end = []
 
--- What is given of the line of a script's fault, which is written behind its text.
-abbrev pub AddsFault : ScriptFault → EndKind → Option (List ℕ) → Option (List ℕ) → Type 0
-AddsFault fault WriteFault old new = AppendsFront old (script_text fault) new
-AddsFault fault NoMemory old new = new ≡ old
-AddsFault fault Done old new = ⊥
-AddsFault fault (Chip s) old new = ⊥
-AddsFault fault (Refused r) old new = (r ≡ refusals.Script fault) × Appends old (script_text fault) new
-
 -- What a script comes to.
 abbrev pub script_outcome : List ℕ → Outcome
 script_outcome text =
     let it = shown text in
     record { end = end_of it.end; starts = script_starts text; past = it.past; text = it.text ++ last_line it.end }
 
--- What the listing of an Intel HEX text comes to: the refusal of its first fault, or the lines of its image.
-abbrev pub listed_outcome : List ℕ → Option HexFault → Outcome
-listed_outcome text None = record { end = Done; starts = no_starts; past = []; text = listing (written erased (data_in text)) }
-listed_outcome text (Some fault) = refused (refusals.Hex fault)
+-- What the listing of an image comes to: its lines, or the refusal of its text.
+abbrev pub listed_outcome : Result (List ℕ) Refusal → Outcome
+listed_outcome (Ok image) = at_rest Done (listing image)
+listed_outcome (Err refusal) = refused refusal
 
--- What a command comes to, whose operand is this text.
-abbrev pub text_outcome : Asked → List ℕ → Outcome
-text_outcome (Bus script) text = script_outcome text
-text_outcome (ListOf image) text = listed_outcome text (fault_in text)
+-- What a command on one file comes to, whose text is this.
+abbrev pub text_outcome : TextCommand → List ℕ → Outcome
+text_outcome texts.Bus text = script_outcome text
+text_outcome texts.List text = listed_outcome (judged_image text (fault_in text))
 
--- What was read of an operand.
-pub data Reading : Type 0 where
-  Whole : (text : List ℕ) → Reading
-  NoFile : Reading
-  ReadFault : Reading
-  TooLong : Reading
-  NoRoom : Reading
+-- A command whose operand of this number was not read.
+abbrev pub unread : ℕ → ReadError → Outcome
+unread operand errors.NoFile = refused (refusals.NoFile operand)
+unread operand errors.ReadFault = refused (refusals.ReadFault operand)
+unread operand errors.TooLong = refused (refusals.TooLong operand)
+unread operand errors.NoMemory = at_rest NoMemory []
 
--- What files may give of a name that holds these bytes, or none.
-abbrev pub Gave : Option (List ℕ) → Reading → Type 0
-Gave held (Whole text) = held ≡ Some text
-Gave held NoFile = held ≡ None
-Gave held ReadFault = Unit {0}
-Gave held TooLong = IsSomeAnd held (λ bytes. TEXT_LIMIT < length bytes)
-Gave held NoRoom = Unit {0}
-
--- What files may give of a name. Where they are told, it is what the name holds, or a failed read.
-abbrev pub MayRead : Option (List ℕ → Option (List ℕ)) → List ℕ → Reading → Type 0
-MayRead files name reading = IfSome files (λ held. Gave (held name) reading)
-
--- A text that was read is within the limit.
-abbrev pub Fits : Reading → Type 0
-Fits (Whole text) = length text ≤ TEXT_LIMIT
-Fits NoFile = Unit {0}
-Fits ReadFault = Unit {0}
-Fits TooLong = Unit {0}
-Fits NoRoom = Unit {0}
-
--- What was read has its cause, by the counts of the files before and after: no file exactly where the count of misses rose, and
--- a failed read exactly where the count of faults rose.
-pub record HasCause (misses misses_now faults faults_now : ℕ) (reading : Reading) : Type 0 where
-  pub missed : RisesOnly (reading ≡ NoFile) misses misses_now
-  pub failed : RisesOnly (reading ≡ ReadFault) faults faults_now
-
--- What a command comes to, whose operand was read like this.
-abbrev pub outcome_of : Asked → Reading → Outcome
-outcome_of form (Whole text) = text_outcome form text
-outcome_of form NoFile = refused refusals.NoFile
-outcome_of form ReadFault = refused refusals.ReadFault
-outcome_of form TooLong = refused refusals.TooLong
-outcome_of form NoRoom = record { end = NoMemory; starts = no_starts; past = []; text = [] }
+-- What a command on one file comes to, by what was read of it.
+abbrev pub on_reading : TextCommand → Reading → Outcome
+on_reading what (Ok text) = text_outcome what text
+on_reading what (Err e) = unread 1 e
 
 -- The history and the text are prefixes of what they should be.
 abbrev pub IsCut : Outcome → Past → Option (List ℕ) → Option (List ℕ) → Type 0
@@ -131,46 +101,70 @@ Shows o Done past old new = IsWhole o Done past old new
 Shows o (Chip s) past old new = IsWhole o (Chip s) past old new
 Shows o (Refused r) past old new = IsWhole o (Refused r) past old new
 
--- An end that a command comes to once its operand was read.
-abbrev pub IsOwn : EndKind → Type 0
-IsOwn Done = Unit {0}
-IsOwn (Chip s) = Unit {0}
-IsOwn WriteFault = Unit {0}
-IsOwn NoMemory = Unit {0}
-IsOwn (Refused refusals.Usage) = ⊥
-IsOwn (Refused refusals.NoFile) = ⊥
-IsOwn (Refused refusals.ReadFault) = ⊥
-IsOwn (Refused refusals.TooLong) = ⊥
-IsOwn (Refused (refusals.Hex fault)) = Unit {0}
-IsOwn (Refused (refusals.Script fault)) = Unit {0}
+-- What is given of the line of a refusal.
+abbrev pub AddsLine : Refusal → EndKind → Option (List ℕ) → Option (List ℕ) → Type 0
+AddsLine refusal WriteFault old new = AppendsFront old (fault_text refusal) new
+AddsLine refusal NoMemory old new = new ≡ old
+AddsLine refusal Done old new = ⊥
+AddsLine refusal (Chip s) old new = ⊥
+AddsLine refusal (Refused r) old new = (r ≡ refusal) × Appends old (fault_text refusal) new
 
 -- The chip allows the history, where its pointers start somewhere.
 pub record IsLegal (past : Past) : Type 0 where
   pub starts : Starts
   pub legal : Legal starts past
 
--- What a command that has read its operand leaves, over a sink that had this text and this count of faults before and after: the
--- outcome's end, history and text; a history that the chip allows; and a write fault exactly where the count rose.
+-- What a command leaves, over a sink that had this text and this count of faults before and after: the outcome's end, history and text; a
+-- history that the chip allows; no scripted peers; and a write fault exactly where the count rose.
 pub record Ran (o : Outcome) (r : QuickEnd) (old new : Option (List ℕ)) (before after : ℕ) : Type 0 where
   pub shows : Shows o r.end r.history.past old new
   pub legal : Legal o.starts r.history.past
-  pub own : IsOwn r.end
+  pub script : r.script ≡ None
   pub causes : RisesOnly (r.end ≡ WriteFault) before after
 
--- What a command comes to over these files, whose counts were these before and after: the outcome of what was read of its operand,
--- and what was read is what the files may give and has its cause.
-pub record ReportsOf (files : Option (List ℕ → Option (List ℕ))) (misses misses_now faults faults_now : ℕ) (form : Asked)
-    (end : EndKind) (past : Past) (old new : Option (List ℕ)) : Type 0 where
-  pub reading : Reading
-  pub may : MayRead files (operand_of form) reading
-  pub fits : Fits reading
-  pub cause : HasCause misses misses_now faults faults_now reading
-  pub shows : Shows (outcome_of form reading) end past old new
-  pub legal : Legal (outcome_of form reading).starts past
+-- What a command on an image and a board leaves that have no fault.
+abbrev pub RanBoth : BoardCommand → List ℕ → Setup → QuickEnd → Option (List ℕ) → Option (List ℕ) → ℕ → ℕ → Type 0
+RanBoth boards.Check image setup r old new before after = Ran (at_rest Done (check_text image setup)) r old new before after
 
--- What the words come to over these files: where they are no written form, a refusal, and nothing is read.
-abbrev pub Reports : Option (List ℕ → Option (List ℕ)) → ℕ → ℕ → ℕ → ℕ → Option Asked → EndKind → Past → Option (List ℕ) → Option (List ℕ) → Type 0
-Reports files misses misses_now faults faults_now None end past old new =
-    (misses_now ≡ misses) × (faults_now ≡ faults) × Shows (refused refusals.Usage) end past old new
-Reports files misses misses_now faults faults_now (Some form) end past old new =
-    ReportsOf files misses misses_now faults faults_now form end past old new
+-- What it leaves, by the judgement of both texts.
+abbrev pub RanJudged : BoardCommand → Result (List ℕ × Setup) Refusal → QuickEnd → Option (List ℕ) → Option (List ℕ) → ℕ → ℕ → Type 0
+RanJudged what (Ok both) r old new before after = RanBoth what both.0 both.1 r old new before after
+RanJudged what (Err refusal) r old new before after = Ran (refused refusal) r old new before after
+
+-- What it leaves, by what was read of both.
+abbrev pub RanBoard : BoardCommand → Reading → Reading → QuickEnd → Option (List ℕ) → Option (List ℕ) → ℕ → ℕ → Type 0
+RanBoard what (Ok image) (Ok board) r old new before after = RanJudged what (judged image board) r old new before after
+RanBoard what (Ok image) (Err e) r old new before after = Ran (unread 2 e) r old new before after
+RanBoard what (Err e) second r old new before after = Ran (unread 1 e) r old new before after
+
+-- A command on one file, over files whose counts were these before and after: the outcome of what was read of it.
+pub record ReportsText (files : Option (List ℕ → Option (List ℕ))) (before after : Counts) (what : TextCommand) (name : List ℕ)
+    (r : QuickEnd) (old new : Option (List ℕ)) (faults faults_now : ℕ) : Type 0 where
+  pub reading : Reading
+  pub read : WasRead files name before after reading
+  pub ran : Ran (on_reading what reading) r old new faults faults_now
+
+-- A command on an image and a board: what was read of both, and what it left. The board is read once the image was read, and else nothing
+-- more was asked of the files.
+pub record ReportsBoard (files : Option (List ℕ → Option (List ℕ))) (before after : Counts) (what : BoardCommand) (image board : List ℕ)
+    (r : QuickEnd) (old new : Option (List ℕ)) (faults faults_now : ℕ) : Type 0 where
+  pub first : Reading
+  pub between : Counts
+  pub second : Reading
+  pub read_first : WasRead files image before between first
+  pub read_second : MatchResult first (λ text. WasRead files board between after second) (λ e. after ≡ between)
+  pub ran : RanBoard what first second r old new faults faults_now
+
+-- A command that reads no file.
+pub record ReportsAlone (before after : Counts) (o : Outcome) (r : QuickEnd) (old new : Option (List ℕ)) (faults faults_now : ℕ) : Type 0 where
+  pub unread : after ≡ before
+  pub ran : Ran o r old new faults faults_now
+
+-- What the words come to over these files and this sink. Where they are no written form, that is a refusal.
+abbrev pub Reports : Option (List ℕ → Option (List ℕ)) → Counts → Counts → Option Asked → QuickEnd → Option (List ℕ) → Option (List ℕ) → ℕ → ℕ → Type 0
+Reports files before after None r old new faults faults_now = ReportsAlone before after (refused refusals.Usage) r old new faults faults_now
+Reports files before after (Some Help) r old new faults faults_now = ReportsAlone before after (at_rest Done forms) r old new faults faults_now
+Reports files before after (Some (OnText what name)) r old new faults faults_now =
+    ReportsText files before after what name r old new faults faults_now
+Reports files before after (Some (OnBoard what image board)) r old new faults faults_now =
+    ReportsBoard files before after what image board r old new faults faults_now

@@ -1,34 +1,55 @@
 -- The words of the command line, those after the program's name.
-use Rattle.std.specs.Prelude.{ℕ, Bool, false, not, ◌==◌, ◌&&◌, List, [], ◌∷◌, Option, None, Some, codes, if◌then◌else◌}
+use Rattle.std.specs.Prelude.{ℕ, Bool, false, not, ◌==◌, ◌&&◌, List, [], ◌∷◌, Option, None, Some, option_map, codes, if◌then◌else◌}
 use Rattle.std.specs.Str.{bytes_eq}
+use Rattle.wz_board.specs.declared.words.TextCommand.{TextCommand}
+use Rattle.wz_board.specs.declared.words.TextCommand.TheVariants as text
+use Rattle.wz_board.specs.declared.words.BoardCommand.{BoardCommand}
+use Rattle.wz_board.specs.declared.words.BoardCommand.TheVariants as board
 use Rattle.wz_board.specs.declared.words.Command.{Command}
 use Rattle.wz_board.specs.declared.words.Command.TheVariants as command
 
--- A written form, with its operand as bytes.
+-- A written form: what is asked of one file, or of an image and a board, each by its name as bytes, or `--help`.
 pub data Asked : Type 0 where
-  Bus : (script : List ℕ) → Asked
-  ListOf : (image : List ℕ) → Asked
+  OnText : TextCommand → (name : List ℕ) → Asked
+  OnBoard : BoardCommand → (image : List ℕ) → (board : List ℕ) → Asked
+  Help : Asked
 
 -- The written form that a command is.
 abbrev pub asked : Command → Asked
-asked (command.Bus script) = Bus script.now
-asked (command.List image) = ListOf image.now
+asked (command.OnText what name) = OnText what name.now
+asked (command.OnBoard what image board) = OnBoard what image.now board.now
+asked command.Help = Help
 
--- The operand of a written form.
-abbrev pub operand_of : Asked → List ℕ
-operand_of (Bus script) = script
-operand_of (ListOf image) = image
+-- What the first word asks of one file: `bus SCRIPT` or `list HEX`.
+abbrev pub text_command : List ℕ → Option TextCommand
+text_command word =
+    if bytes_eq word (codes "bus") then Some text.Bus else
+    (if bytes_eq word (codes "list") then Some text.List else None)
+
+-- What the first word asks of an image and a board: `check HEX BOARD`.
+abbrev pub board_command : List ℕ → Option BoardCommand
+board_command word = if bytes_eq word (codes "check") then Some board.Check else None
 
 -- An operand is not empty and does not start with a dash.
 abbrev pub is_operand : List ℕ → Bool
 is_operand [] = false
 is_operand (b ∷ word) = not (b == 45)
 
--- The written form that the words are: `bus SCRIPT` or `list HEX`. All else is none.
+abbrev pub on_text : List ℕ → List ℕ → Option Asked
+on_text word name = if is_operand name then option_map (λ what. OnText what name) (text_command word) else None
+
+abbrev pub on_board : List ℕ → List ℕ → List ℕ → Option Asked
+on_board word image board =
+    if is_operand image && is_operand board then option_map (λ what. OnBoard what image board) (board_command word) else None
+
+-- The written form that the words are. All else is none.
 abbrev pub command_of : List (List ℕ) → Option Asked
 command_of [] = None
-command_of (word ∷ []) = None
-command_of (word ∷ operand ∷ []) =
-    if bytes_eq word (codes "bus") && is_operand operand then Some (Bus operand) else
-    (if bytes_eq word (codes "list") && is_operand operand then Some (ListOf operand) else None)
-command_of (a ∷ b ∷ c ∷ more) = None
+command_of (word ∷ []) = if bytes_eq word (codes "--help") then Some Help else None
+command_of (word ∷ name ∷ []) = on_text word name
+command_of (word ∷ image ∷ board ∷ []) = on_board word image board
+command_of (a ∷ b ∷ c ∷ d ∷ more) = None
+
+-- What `--help` prints: each written form that is built, on a line of its own.
+abbrev pub forms : List ℕ
+forms = codes "check HEX BOARD\nbus SCRIPT\nlist HEX\n--help\n"

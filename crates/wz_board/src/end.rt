@@ -1,26 +1,39 @@
 //! How a command ends, and what it prints of a refusal.
 ghost use Rattle.std.specs.Prelude.{◌≡◌, string_bytes, IfOk};
-ghost use Rattle.wz_board.specs.Ends.{fault_text, hex_text, kind_text, script_kind_text, script_text, status_of, IsPlain};
+ghost use Rattle.wz_board.specs.Ends.{board_text, fault_text, hex_text, kind_text, script_kind_text, script_text, status_of};
 
+use board_file::BoardFault;
 use board_gen::{ScriptFault, ScriptKind};
 use chip_hist::history::History;
 use chip_sheet::stop::ChipStop;
 use ihex::{HexFault, HexKind};
+use link_script::ScriptLinks;
 use std::alloc::{AllocError, Global};
 
-/// Why a command did not do what its words ask.
+/// Why a command did not do what its words ask. Operands count from 1.
 #[derive(Clone, Copy, Debug, PartialEq, Eq)]
 pub enum Refusal {
     /// The words are no written form.
     Usage,
-    /// There is no file of the operand's name.
-    NoFile,
-    /// The file could not be read.
-    ReadFault,
-    /// The file has more than [`TEXT_LIMIT`](crate::quick::TEXT_LIMIT) bytes.
-    TooLong,
+    /// There is no file of an operand's name.
+    NoFile {
+        /// Which operand it is.
+        operand: u8,
+    },
+    /// The file of an operand could not be read.
+    ReadFault {
+        /// Which operand it is.
+        operand: u8,
+    },
+    /// The file of an operand has more than [`TEXT_LIMIT`](crate::reading::TEXT_LIMIT) bytes.
+    TooLong {
+        /// Which operand it is.
+        operand: u8,
+    },
     /// The text is no Intel HEX image.
     Hex(HexFault),
+    /// The text is no board file.
+    Board(BoardFault),
     /// The text is no script, or a link event in it does not fit.
     Script(ScriptFault),
 }
@@ -47,6 +60,8 @@ pub struct QuickEnd {
     pub status: u8,
     /// What happened on the chip's bus and its links, empty where the command made no event.
     pub history: History,
+    /// The scripted peers of a run on them, where they were made.
+    pub script: Option<ScriptLinks>,
     /// How the command ended.
     pub end: EndKind,
     ghost status_of_end: { status ≡ status_of end },
@@ -60,26 +75,35 @@ pub fn status_of(end: EndKind) -> u8
         EndKind::Done => 0,
         EndKind::Refused(Refusal::Usage) => 2,
         EndKind::Refused(Refusal::Hex(_)) => 3,
-        EndKind::Refused(Refusal::NoFile | Refusal::ReadFault) => 5,
+        EndKind::Refused(Refusal::Board(_)) => 4,
+        EndKind::Refused(Refusal::NoFile { .. } | Refusal::ReadFault { .. }) => 5,
         EndKind::WriteFault => 6,
         EndKind::NoMemory => 7,
-        EndKind::Refused(Refusal::TooLong) => 11,
+        EndKind::Refused(Refusal::TooLong { .. }) => 11,
         EndKind::Refused(Refusal::Script(_)) => 14,
         EndKind::Chip(_) => 20,
     }
 }
 
-/// The line that a refusal prints, but for one with values of its own.
-pub fn fault_text(refusal: Refusal) -> &'static str
-    requires { IsPlain refusal }
-    ensures { result.now ≡ fault_text refusal }
+/// The line of words that are no written form.
+pub const USAGE: &str = "fault usage\n";
+
+/// The line that a refusal prints.
+///
+/// # Errors
+///
+/// Out of memory alone.
+pub fn fault_text(alloc: Global, refusal: Refusal) -> Result<String, AllocError>
+    ensures { IfOk result (λ t. string_bytes t ≡ fault_text refusal) }
 {
     match refusal {
-        Refusal::Usage => "fault usage\n",
-        Refusal::NoFile => "fault nofile 1\n",
-        Refusal::ReadFault => "fault read 1\n",
-        Refusal::TooLong => "fault long 1\n",
-        Refusal::Hex(_) | Refusal::Script(_) => unreachable!(),
+        Refusal::Usage => String::from_str(alloc, USAGE),
+        Refusal::NoFile { operand } => format!(in alloc; "fault nofile {operand}\n"),
+        Refusal::ReadFault { operand } => format!(in alloc; "fault read {operand}\n"),
+        Refusal::TooLong { operand } => format!(in alloc; "fault long {operand}\n"),
+        Refusal::Hex(fault) => hex_text(alloc, fault),
+        Refusal::Board(fault) => board_text(alloc, fault),
+        Refusal::Script(fault) => script_text(alloc, fault),
     }
 }
 
@@ -99,17 +123,23 @@ fn kind_text(kind: HexKind) -> &'static str
     }
 }
 
-/// The line that the fault of a text prints.
-///
-/// # Errors
-///
-/// Out of memory alone.
-pub fn hex_text(alloc: Global, fault: HexFault) -> Result<String, AllocError>
+/// The line that the fault of an image's text prints.
+fn hex_text(alloc: Global, fault: HexFault) -> Result<String, AllocError>
     ensures { IfOk result (λ t. string_bytes t ≡ hex_text fault) }
 {
     let kind = kind_text(fault.kind);
     let line = fault.line;
     format!(in alloc; "fault hex {kind} {line}\n")
+}
+
+/// The line that the fault of a board's text prints.
+fn board_text(alloc: Global, fault: BoardFault) -> Result<String, AllocError>
+    ensures { IfOk result (λ t. string_bytes t ≡ board_text fault) }
+{
+    let key = fault.key.word();
+    let entry = fault.entry;
+    let kind = fault.kind.word();
+    format!(in alloc; "fault board {key} {entry} {kind}\n")
 }
 
 /// The name of a kind of fault of a script.
@@ -124,11 +154,7 @@ fn script_kind_text(kind: ScriptKind) -> &'static str
 }
 
 /// The line that the fault of a script prints.
-///
-/// # Errors
-///
-/// Out of memory alone.
-pub fn script_text(alloc: Global, fault: ScriptFault) -> Result<String, AllocError>
+fn script_text(alloc: Global, fault: ScriptFault) -> Result<String, AllocError>
     ensures { IfOk result (λ t. string_bytes t ≡ script_text fault) }
 {
     let kind = script_kind_text(fault.kind);

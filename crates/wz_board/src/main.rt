@@ -1,13 +1,15 @@
-//! The board runner's program: `bus SCRIPT` runs a bus script against the chip and prints what the chip answers, `list HEX`
-//! lists the instructions of a firmware image.
+//! The board runner's program: `check HEX BOARD` judges a firmware image and a board, `bus SCRIPT` runs a bus script against the
+//! chip and prints what the chip answers, `list HEX` lists the instructions of a firmware image, `--help` prints these forms.
 #![tactic(auto)]
 
+mod boards;
 mod end;
-mod laws;
-mod listing;
+mod left;
 mod quick;
+mod reading;
 #[cfg(test)]
 mod tests;
+mod texts;
 mod words;
 
 use std::process::ExitCode;

@@ -1,6 +1,7 @@
 //! Whole commands over files and a sink in memory, with ample memory.
 use crate::end::{EndKind, QuickEnd, Refusal};
-use crate::quick::{TEXT_LIMIT, quick};
+use crate::quick::quick;
+use crate::reading::TEXT_LIMIT;
 use std::alloc::Global;
 use std::test::Fail;
 use wz_base::{MemFiles, MemSink};
@@ -14,6 +15,15 @@ fn words(alloc: Global, texts: &[&str]) -> Result<Vec<String>, Fail> {
     Ok(words)
 }
 
+/// Files of these names that hold these bytes.
+fn files_of(alloc: Global, texts: &[(&str, &[u8])]) -> Result<Vec<(String, Vec<u8>)>, Fail> {
+    let mut files = Vec::new(alloc);
+    for (name, bytes) in texts {
+        files.push((String::from_str(alloc, name)?, bytes.to_vec(alloc)?))?;
+    }
+    Ok(files)
+}
+
 /// One file of the name `s` that holds these bytes.
 fn one_file(alloc: Global, bytes: Vec<u8>) -> Result<Vec<(String, Vec<u8>)>, Fail> {
     let mut files = Vec::new(alloc);
@@ -21,15 +31,15 @@ fn one_file(alloc: Global, bytes: Vec<u8>) -> Result<Vec<(String, Vec<u8>)>, Fai
     Ok(files)
 }
 
-/// Runs these words over that file; the reads and writes of these numbers fail.
+/// Runs these words over these files; the reads and writes of these numbers fail.
 fn run(
     alloc: Global,
     texts: &[&str],
-    bytes: Vec<u8>,
+    files: Vec<(String, Vec<u8>)>,
     failing: (&[u64], &[u64]),
     out: &mut Vec<u8>,
 ) -> Result<Option<QuickEnd>, Fail> {
-    let mut files = MemFiles::new(one_file(alloc, bytes)?, failing.0.to_vec(alloc)?);
+    let mut files = MemFiles::new(files, failing.0.to_vec(alloc)?);
     let mut sink = MemSink::new(alloc, 65536, failing.1.to_vec(alloc)?)?;
     let words = words(alloc, texts)?;
     let ended = quick(alloc, &words, &mut files, &mut sink);
@@ -68,7 +78,13 @@ fn run_scripts(alloc: Global, rows: &[(&[&str], &[&str], u8)]) -> Result<Option<
             want.extend_from_slice(piece.as_bytes())?;
         }
         let mut out = Vec::new(alloc);
-        let ended = run(alloc, &["bus", "s"], text, (&[], &[]), &mut out)?;
+        let ended = run(
+            alloc,
+            &["bus", "s"],
+            one_file(alloc, text)?,
+            (&[], &[]),
+            &mut out,
+        )?;
         if out != want || ended.map(|e| e.status) != Some(*status) {
             return Ok(Some(i));
         }
@@ -233,34 +249,157 @@ fn lists_images(rt: HostRuntime) -> Result<(), Fail> {
     ] {
         let mut out = Vec::new(rt.alloc());
         let bytes = hex.as_bytes().to_vec(rt.alloc())?;
-        let ended = run(rt.alloc(), &["list", "s"], bytes, (&[], &[]), &mut out)?;
+        let ended = run(
+            rt.alloc(),
+            &["list", "s"],
+            one_file(rt.alloc(), bytes)?,
+            (&[], &[]),
+            &mut out,
+        )?;
         assert_eq!(rt; out.as_slice(), shown.as_bytes(), "{hex}");
         assert_eq!(rt; ended.map(|e| e.status), Some(status), "{hex}");
     }
     Ok(())
 }
 
+/// The image of one `break`.
+const BREAK: &str = ":020000009895D1\n:00000001FF\n";
+
+/// A board with a listen and a route.
+const ROUTED: &str =
+    "[[listen]]\nchip = 5000\nhost = 15000\n[[route]]\naddr = \"10.0.0.2\"\nport = 80\nhost_port = 18080\n";
+
 #[test]
-fn refuses(rt: HostRuntime) -> Result<(), Fail> {
-    for (texts, failing, shown, end) in [
-        (["bus", "t"], (0, 0), "fault nofile 1\n", Refusal::NoFile),
-        (["bus", ""], (0, 0), "fault usage\n", Refusal::Usage),
-        (["bus", "-"], (0, 0), "fault usage\n", Refusal::Usage),
-        (["--help", "s"], (0, 0), "fault usage\n", Refusal::Usage),
-        (["bus", "s"], (1, 0), "fault read 1\n", Refusal::ReadFault),
-        (["bus", "s"], (2, 0), "fault read 1\n", Refusal::ReadFault),
+fn checks_images_and_boards(rt: HostRuntime) -> Result<(), Fail> {
+    let bad = ":020000009895D2\n:00000001FF\n";
+    let client = "[[peer]]\nkind = \"client\"\naddr = \"10.0.0.9\"\nport = 40000\nchip = 5000\n";
+    for (hex, board, shown, status) in [
+        (BREAK, "", "ok 2 0 0 0\n", 0),
+        (BREAK, ROUTED, "ok 2 1 1 0\n", 0),
+        (BREAK, client, "ok 2 0 0 1\n", 0),
+        (bad, "", "fault hex BadSum 1\n", 3),
+        ("", "", "fault hex NoEnd 0\n", 3),
+        (BREAK, "cycles = 0", "fault board cycles 0 OutOfRange\n", 4),
+        (
+            BREAK,
+            "[[listen]]\nchip = 1\nhost = 1\n[[listen]]\nchip = 1",
+            "fault board host 1 Missing\n",
+            4,
+        ),
+        (BREAK, "=", "fault board file 0 BadToml\n", 4),
+        (bad, "cycles = 0", "fault hex BadSum 1\n", 3),
     ] {
         let mut out = Vec::new(rt.alloc());
-        let bytes = b"L H".to_vec(rt.alloc())?;
+        let files = files_of(
+            rt.alloc(),
+            &[("h", hex.as_bytes()), ("b", board.as_bytes())],
+        )?;
         let ended = run(
             rt.alloc(),
-            &texts,
-            bytes,
-            (&[failing.0], &[failing.1]),
+            &["check", "h", "b"],
+            files,
+            (&[], &[]),
             &mut out,
         )?;
+        assert_eq!(rt; out.as_slice(), shown.as_bytes(), "{board}");
+        assert_eq!(rt; ended.map(|e| e.status), Some(status), "{board}");
+    }
+    Ok(())
+}
+
+#[test]
+fn prints_the_written_forms(rt: HostRuntime) -> Result<(), Fail> {
+    let mut out = Vec::new(rt.alloc());
+    let ended = run(
+        rt.alloc(),
+        &["--help"],
+        Vec::new(rt.alloc()),
+        (&[1], &[]),
+        &mut out,
+    )?;
+    let forms = "check HEX BOARD\nbus SCRIPT\nlist HEX\n--help\n";
+    assert_eq!(rt; out.as_slice(), forms.as_bytes());
+    assert_eq!(rt; ended.map(|e| (e.status, e.end)), Some((0, EndKind::Done)));
+    Ok(())
+}
+
+/// What words come to over a file `s` of a script and a file `x` of no image, where a call of the files fails.
+fn refused(
+    alloc: Global,
+    texts: &[&str],
+    failing: u64,
+    out: &mut Vec<u8>,
+) -> Result<Option<EndKind>, Fail> {
+    let files = files_of(alloc, &[("s", b"L H"), ("x", b"x")])?;
+    let ended = run(alloc, texts, files, (&[failing], &[]), out)?;
+    Ok(ended.map(|e| e.end))
+}
+
+#[test]
+fn refuses(rt: HostRuntime) -> Result<(), Fail> {
+    let rows: [(&[&str], u64, &str, Refusal); 15] = [
+        (
+            &["bus", "t"],
+            0,
+            "fault nofile 1\n",
+            Refusal::NoFile { operand: 1 },
+        ),
+        (&["bus", ""], 0, "fault usage\n", Refusal::Usage),
+        (&["bus", "-"], 0, "fault usage\n", Refusal::Usage),
+        (&["run", "x"], 0, "fault usage\n", Refusal::Usage),
+        (&[], 0, "fault usage\n", Refusal::Usage),
+        (&["--help", "s"], 0, "fault usage\n", Refusal::Usage),
+        (&["check", "x"], 0, "fault usage\n", Refusal::Usage),
+        (&["check", "x", "-s"], 0, "fault usage\n", Refusal::Usage),
+        (
+            &["bus", "s"],
+            1,
+            "fault read 1\n",
+            Refusal::ReadFault { operand: 1 },
+        ),
+        (
+            &["bus", "s"],
+            2,
+            "fault read 1\n",
+            Refusal::ReadFault { operand: 1 },
+        ),
+        // Both operands are read before either is judged. Each takes a pick and two reads.
+        (
+            &["check", "t", "t"],
+            0,
+            "fault nofile 1\n",
+            Refusal::NoFile { operand: 1 },
+        ),
+        (
+            &["check", "x", "t"],
+            0,
+            "fault nofile 2\n",
+            Refusal::NoFile { operand: 2 },
+        ),
+        (
+            &["check", "x", "t"],
+            3,
+            "fault read 1\n",
+            Refusal::ReadFault { operand: 1 },
+        ),
+        (
+            &["check", "x", "s"],
+            4,
+            "fault read 2\n",
+            Refusal::ReadFault { operand: 2 },
+        ),
+        (
+            &["check", "x", "s"],
+            6,
+            "fault read 2\n",
+            Refusal::ReadFault { operand: 2 },
+        ),
+    ];
+    for (texts, failing, shown, refusal) in rows {
+        let mut out = Vec::new(rt.alloc());
+        let end = refused(rt.alloc(), texts, failing, &mut out)?;
         assert_eq!(rt; out.as_slice(), shown.as_bytes());
-        assert_eq!(rt; ended.map(|e| e.end), Some(EndKind::Refused(end)));
+        assert_eq!(rt; end, Some(EndKind::Refused(refusal)));
     }
     Ok(())
 }
@@ -269,14 +408,26 @@ fn refuses(rt: HostRuntime) -> Result<(), Fail> {
 fn stops_at_the_limit_and_at_a_failed_write(rt: HostRuntime) -> Result<(), Fail> {
     let mut out = Vec::new(rt.alloc());
     let long = vec![in rt.alloc(); b' '; TEXT_LIMIT as usize + 1]?;
-    let ended = run(rt.alloc(), &["bus", "s"], long, (&[], &[]), &mut out)?;
+    let ended = run(
+        rt.alloc(),
+        &["bus", "s"],
+        one_file(rt.alloc(), long)?,
+        (&[], &[]),
+        &mut out,
+    )?;
     assert_eq!(rt; out.as_slice(), b"fault long 1\n".as_slice());
     assert_eq!(rt; ended.map(|e| e.status), Some(11));
 
     // Nothing is written, and the history keeps the event.
     let mut none = Vec::new(rt.alloc());
     let bytes = b"00".to_vec(rt.alloc())?;
-    let ended = run(rt.alloc(), &["bus", "s"], bytes, (&[], &[1]), &mut none)?;
+    let ended = run(
+        rt.alloc(),
+        &["bus", "s"],
+        one_file(rt.alloc(), bytes)?,
+        (&[], &[1]),
+        &mut none,
+    )?;
     assert_eq!(rt; none.len(), 0);
     assert_eq!(rt; ended.map(|e| (e.status, e.history.len())), Some((6, 1)));
     Ok(())
@@ -291,7 +442,13 @@ fn writes_pieces_of_whole_lines(rt: HostRuntime) -> Result<(), Fail> {
         script.extend_from_slice(b"00\n")?;
     }
     let mut prefix = Vec::new(rt.alloc());
-    let ended = run(rt.alloc(), &["bus", "s"], script, (&[], &[2]), &mut prefix)?;
+    let ended = run(
+        rt.alloc(),
+        &["bus", "s"],
+        one_file(rt.alloc(), script)?,
+        (&[], &[2]),
+        &mut prefix,
+    )?;
     assert_eq!(rt; prefix.len(), 8190);
     assert!(rt; prefix.ends_with(b"FF\n"));
     assert_eq!(rt; ended.map(|e| (e.status, e.history.len())), Some((6, 3000)));
@@ -302,7 +459,13 @@ fn writes_pieces_of_whole_lines(rt: HostRuntime) -> Result<(), Fail> {
         long.extend_from_slice(b"00 ")?;
     }
     let mut prefix = Vec::new(rt.alloc());
-    let ended = run(rt.alloc(), &["bus", "s"], long, (&[], &[2]), &mut prefix)?;
+    let ended = run(
+        rt.alloc(),
+        &["bus", "s"],
+        one_file(rt.alloc(), long)?,
+        (&[], &[2]),
+        &mut prefix,
+    )?;
     assert_eq!(rt; prefix.as_slice(), b"FF\n".as_slice());
     assert_eq!(rt; ended.map(|e| (e.status, e.history.len())), Some((6, 3001)));
     Ok(())
@@ -324,7 +487,13 @@ fn lists_a_long_image_in_pieces(rt: HostRuntime) -> Result<(), Fail> {
     }
     hex.extend_from_slice(b":00000001FF\n")?;
     let mut prefix = Vec::new(rt.alloc());
-    let ended = run(rt.alloc(), &["list", "s"], hex, (&[], &[2]), &mut prefix)?;
+    let ended = run(
+        rt.alloc(),
+        &["list", "s"],
+        one_file(rt.alloc(), hex)?,
+        (&[], &[2]),
+        &mut prefix,
+    )?;
     assert_eq!(rt; prefix.len(), 8145);
     assert!(rt; prefix.ends_with(b"021E: 0000 nop\n"));
     assert_eq!(rt; ended.map(|e| e.status), Some(6));

@@ -1,29 +1,64 @@
 //! The words of the command line.
 ghost use Rattle.std.specs.Prelude.{◌≡◌, map, string_bytes, option_map};
-ghost use Rattle.wz_board.specs.Words.{asked, command_of, is_operand, operand_of};
+ghost use Rattle.wz_board.specs.Words.{asked, board_command, command_of, is_operand, on_board, on_text, text_command};
+
+/// What is asked of one text.
+#[derive(Clone, Copy, Debug, PartialEq, Eq)]
+pub enum TextCommand {
+    /// `bus SCRIPT`: runs a bus script.
+    Bus,
+    /// `list HEX`: lists the instructions of an Intel HEX text.
+    List,
+}
+
+/// What is asked of the text of a firmware image and that of a board.
+#[derive(Clone, Copy, Debug, PartialEq, Eq)]
+pub enum BoardCommand {
+    /// `check HEX BOARD`: judges both, and counts what they say.
+    Check,
+}
 
 /// A written form of the command line.
 #[derive(Clone, Copy, Debug, PartialEq, Eq)]
 pub enum Command<'a> {
-    /// `bus SCRIPT`: runs a bus script.
-    Bus {
-        /// The name of the script's file.
-        script: &'a str,
+    /// A command on one file.
+    OnText {
+        /// What is asked.
+        what: TextCommand,
+        /// The name of the file.
+        name: &'a str,
     },
-    /// `list HEX`: lists the instructions of an Intel HEX file.
-    List {
+    /// A command on a firmware image and a board.
+    OnBoard {
+        /// What is asked.
+        what: BoardCommand,
         /// The name of the image's file.
         image: &'a str,
+        /// The name of the board's file.
+        board: &'a str,
     },
+    /// `--help`: prints the written forms.
+    Help,
 }
 
-/// The operand of a command.
-pub fn operand_of<'a>(command: &Command<'a>) -> &'a str
-    ensures { result.now ≡ operand_of (asked command.now) }
+/// The command on one file of this name, if it is one.
+fn text_command(word: &str) -> Option<TextCommand>
+    ensures { result ≡ text_command word.now }
 {
-    match *command {
-        Command::Bus { script } => script,
-        Command::List { image } => image,
+    match word {
+        "bus" => Some(TextCommand::Bus),
+        "list" => Some(TextCommand::List),
+        _ => None,
+    }
+}
+
+/// The command on an image and a board of this name, if it is one.
+fn board_command(word: &str) -> Option<BoardCommand>
+    ensures { result ≡ board_command word.now }
+{
+    match word {
+        "check" => Some(BoardCommand::Check),
+        _ => None,
     }
 }
 
@@ -34,21 +69,40 @@ fn is_operand(word: &str) -> bool
     !word.is_empty() && !word.starts_with('-')
 }
 
+/// The command on one file that two words are, if they are one.
+fn on_text<'a>(word: &str, name: &'a str) -> Option<Command<'a>>
+    ensures { option_map asked result ≡ on_text word.now name.now }
+{
+    if !is_operand(name) {
+        return None;
+    }
+    match text_command(word) {
+        Some(what) => Some(Command::OnText { what, name }),
+        None => None,
+    }
+}
+
+/// The command on an image and a board that three words are, if they are one.
+fn on_board<'a>(word: &str, image: &'a str, board: &'a str) -> Option<Command<'a>>
+    ensures { option_map asked result ≡ on_board word.now image.now board.now }
+{
+    if !(is_operand(image) && is_operand(board)) {
+        return None;
+    }
+    match board_command(word) {
+        Some(what) => Some(Command::OnBoard { what, image, board }),
+        None => None,
+    }
+}
+
 /// The command that the words are, if they are one.
 pub fn command_of(words: &[String]) -> Option<Command<'_>>
     ensures { option_map asked result ≡ command_of (map string_bytes words.now) }
 {
     match words {
-        [bus, script] if bus.as_str() == "bus" && is_operand(script.as_str()) => {
-            Some(Command::Bus {
-                script: script.as_str(),
-            })
-        }
-        [list, image] if list.as_str() == "list" && is_operand(image.as_str()) => {
-            Some(Command::List {
-                image: image.as_str(),
-            })
-        }
+        [word] if word.as_str() == "--help" => Some(Command::Help),
+        [word, name] => on_text(word.as_str(), name.as_str()),
+        [word, image, board] => on_board(word.as_str(), image.as_str(), board.as_str()),
         _ => None,
     }
 }

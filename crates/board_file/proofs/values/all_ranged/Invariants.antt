@@ -1,5 +1,5 @@
 use Rattle.std.proofs.Common.{◌≡◌, drop}
-use Rattle.board_gen.specs.Tokens.{each}
+use Rattle.board_read.specs.Lists.{each}
 use Rattle.board_file.proofs.Each.{with_front}
 use Rattle.board_file.specs.Values.{ranged}
 use Rattle.board_file.proofs.values.all_ranged.Given as goal

@@ -1,7 +1,7 @@
 use Rattle.std.proofs.Common.{◌≡◌, map, drop}
 use Rattle.toml.specs.Data.{as_integer}
 use Rattle.toml.specs.View.{view}
-use Rattle.board_gen.specs.Tokens.{each}
+use Rattle.board_read.specs.Lists.{each}
 use Rattle.board_file.proofs.Each.{with_front}
 use Rattle.board_file.proofs.values.integers.Given as goal
 

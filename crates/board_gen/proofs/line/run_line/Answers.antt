@@ -1,10 +1,8 @@
 use Rattle.std.proofs.Common.{arith, ◌∙◌}
-use Rattle.chip_sheet.specs.Replay.{told}
-use Rattle.board_gen.specs.Run.{steps_in}
 use Rattle.board_gen.specs.Tokens.{tokens}
 use Rattle.board_gen.proofs.Each.{steps_rest}
 use Rattle.board_gen.proofs.ToldLine.{line_more, line_halts, word_is}
-use Rattle.board_gen.proofs.Weights.{step_light, step_weight, taken_weight}
+use Rattle.board_gen.proofs.Weights.{step_light, taken_weight}
 use Rattle.board_gen.proofs.line.run_line.Goals as goal
 
 pub returns-in-Err-clause-gives : goal.returns-in-Err-clause-gives

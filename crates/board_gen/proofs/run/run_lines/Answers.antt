@@ -1,6 +1,5 @@
 use Rattle.std.proofs.Common.{arith, map, refl, ap, ◌∙◌}
 use Rattle.board_gen.specs.Run.{lines_in, steps_in}
-use Rattle.board_gen.specs.Script.{script_lines}
 use Rattle.board_gen.proofs.ToldLines.{far_on, lines_more, lines_halt}
 use Rattle.board_gen.proofs.run.run_lines.Goals as goal
 

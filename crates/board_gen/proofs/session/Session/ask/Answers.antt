@@ -1,5 +1,4 @@
-use Rattle.std.proofs.Common.{◌≡◌, ◌≤◌, ◌∷◌, None, Some, arith, ap, sym, ◌∙◌, length}
-use Rattle.board_bus.specs.declared.event.BusEvent.{BusEvent}
+use Rattle.std.proofs.Common.{◌∷◌, arith, ap, ◌∙◌}
 use Rattle.chip_sheet.specs.declared.event.Entry.TheVariants.{Bus}
 use Rattle.chip_core.specs.Chip.{starts_of}
 use Rattle.board_gen.specs.SessionState.{SessionState}

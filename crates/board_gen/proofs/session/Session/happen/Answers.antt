@@ -1,4 +1,4 @@
-use Rattle.std.proofs.Common.{◌≡◌, ◌∷◌, true, false, arith, ap, sym, ◌∙◌, Bool, not}
+use Rattle.std.proofs.Common.{◌∷◌, true, false, arith, ap, ◌∙◌}
 use Rattle.chip_sheet.specs.declared.event.Entry.TheVariants.{Link}
 use Rattle.chip_core.specs.Chip.{starts_of}
 use Rattle.board_gen.specs.SessionState.{SessionState}

@@ -1,0 +1,8 @@
+pub mod Kept
+pub mod Turns
+pub mod Grows
+pub mod Told
+pub mod Quiet
+pub mod Cut
+pub mod Runs
+pub mod Way

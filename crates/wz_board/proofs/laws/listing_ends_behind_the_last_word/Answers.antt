@@ -1,5 +1,0 @@
-use Rattle.wz_board.proofs.Used.{used_ends}
-use Rattle.wz_board.proofs.laws.listing_ends_behind_the_last_word.Goals as goal
-
-pub returns : goal.returns
-returns c = used_ends
