@@ -5,4 +5,6 @@
 
 pub mod end;
 pub mod report;
+#[cfg(test)]
+mod tests;
 pub mod trace;

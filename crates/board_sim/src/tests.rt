@@ -1,0 +1,81 @@
+//! Reports and traces of a small history.
+use crate::end::RunEnd;
+use crate::report::report;
+use crate::trace::{TraceError, write_trace};
+use avr_core::AvrStop;
+use avr_mcu::Mcu;
+use chip_core::Chip;
+use chip_hist::{History, data_len};
+use chip_sheet::event::{BusAnswer, BusEvent, Event, LinkWhat};
+use chip_sheet::stop::ChipStop;
+use flash::Image;
+use std::alloc::Global;
+use std::test::Fail;
+use wz_base::MemSink;
+
+/// An event of the bus, two of links, of which one failed, and a turn in which nothing happened.
+fn small_history(alloc: Global) -> Result<History, Fail> {
+    let mut history = History::new(alloc, 4);
+    for event in [
+        Event::Bus(BusEvent::Byte(0x39), BusAnswer::Out(4)),
+        Event::Link(3, LinkWhat::Failed),
+        Event::Link(0, LinkWhat::Took(5)),
+        Event::Rest,
+    ] {
+        if history.is_full() {
+            return Err(Fail::new("full"));
+        }
+        history.reserve(1, data_len(event))?;
+        history.push(event);
+    }
+    Ok(history)
+}
+
+#[test]
+fn reports_ends(rt: HostRuntime) -> Result<(), Fail> {
+    let chip = Chip::new(rt.alloc(), 0, 0)?;
+    let history = small_history(rt.alloc())?;
+    let mcu = Mcu::new(rt.alloc(), Image::blank(rt.alloc())?)?;
+    for (last, end, kind, trail) in [
+        (None, RunEnd::Break, "== end break\n", ""),
+        (Some(b'\n'), RunEnd::TraceFull, "== end trace-full\n", ""),
+        (
+            Some(b'x'),
+            RunEnd::CycleLimit,
+            "\n== end cycle-limit\n",
+            "== trail\n",
+        ),
+        (
+            None,
+            RunEnd::Chip(ChipStop::OverwriteInFlight { sn: 0, at: 2047 }),
+            "== end stop OverwriteInFlight 0 2047\n",
+            "== trail\n",
+        ),
+        (
+            None,
+            RunEnd::Avr(AvrStop::SelfProgram { pc: 7 }),
+            "== end stop SelfProgram 7\n",
+            "== trail\n",
+        ),
+    ] {
+        let text = report(rt.alloc(), &chip, &history, &mcu, last, end)?;
+        let shown = format!(in rt.alloc();
+            "{kind}== cycles 0\n== bus 1\n== link 2\n== faults 1\n{trail}"
+        )?;
+        assert_eq!(rt; text.as_str(), shown.as_str());
+    }
+    Ok(())
+}
+
+#[test]
+fn writes_traces(rt: HostRuntime) -> Result<(), Fail> {
+    let history = small_history(rt.alloc())?;
+    let whole = "w5500 trace 1 100 65535\n39>04\n@3:failed\n@0:took:5\n.\n";
+    for (failing, answer, shown) in [(0, Ok(()), whole), (1, Err(TraceError::WriteFault), "")] {
+        let mut out = MemSink::new(rt.alloc(), 100, vec![in rt.alloc(); failing]?)?;
+        let answered = write_trace(rt.alloc(), &history, 100, 65535, &mut out);
+        assert_eq!(rt; answered, answer);
+        assert_eq!(rt; out.bytes(), shown.as_bytes());
+    }
+    Ok(())
+}
