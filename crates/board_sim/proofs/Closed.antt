@@ -20,6 +20,7 @@ use Rattle.board_sim.specs.Boards.{Board, is_full_at}
 use Rattle.board_sim.specs.Sweeps.{Swept, whole, cut_off, did, linked}
 use Rattle.board_sim.specs.Closes.{is_out_due_on, went_on, drained, closed_from, closed}
 use Rattle.board_sim.specs.Views.{board_of}
+use Rattle.board_sim.specs.Seats.{ClosesTo}
 use Rattle.board_sim.proofs.LinkSteps.{ByScript, Leads, called_is, called_did, refused}
 use Rattle.board_sim.proofs.Weights.{heavy, light}
 
@@ -126,11 +127,6 @@ drain_is : (most n : ℕ) (wanted : Option BusEvent) (bytes steps : ℕ) (old : 
     → old.stopped ≡ None → Drains ByScript most n old result new → Leads result (drained (old.log.limit + 1) (board_of old wanted bytes steps) n) wanted bytes steps new
 drain_is most n wanted bytes steps old result new small none it =
     rw add-one (drains_are most n wanted bytes steps old result new old.log.limit small none (omega arith) it)
-
--- What closing comes to; where memory was missing there is no more to say.
-abbrev pub ClosesTo : Closing → Board → Board → Type 0
-ClosesTo NoMemory board b = Unit {0}
-ClosesTo answer board b = board ≡ b
 
 closed_cut : (more : ℕ) (b after : Board) (n : ℕ) → drained (b.events + 1) b n ≡ cut_off after → closed_from (suc more) b n ≡ after
 unfolding closed_from

@@ -23,6 +23,7 @@ use Rattle.chip_shared.specs.declared.shared.LinkDid.{LinkDid}
 use Rattle.board_sim.specs.Boards.{Board}
 use Rattle.board_sim.specs.Sweeps.{Swept, whole, cut_off, answered, did, linked, idled}
 use Rattle.board_sim.specs.Views.{board_of}
+use Rattle.board_sim.specs.Seats.{LeadsBy}
 
 -- What a call makes of scripted peers, and of the counts that they show.
 abbrev pub ByScript : ScriptLinks → Call → LinkAnswer → ScriptLinks → Type 0
@@ -70,15 +71,7 @@ pub called_did : (wanted : Option BusEvent) (bytes steps : ℕ) (old new : State
 unfolding did answered
 called_did wanted bytes steps old new place does it = it.did ∙ ap (did_at place) it.effect.so.answered
 
--- What link steps that ended so come to: they were made whole, or the history was full at one of them; where memory was missing there
--- is no more to say.
-abbrev pub LeadsBy : {A : Type 0} → Result A StepEnd → Swept → Board → Type 0
-LeadsBy (Ok done) swept b = swept ≡ whole b
-LeadsBy (Err end.TraceFull) swept b = swept ≡ cut_off b
-LeadsBy (Err end.NoMemory) swept b = Unit {0}
-LeadsBy (Err (end.Stopped stop)) swept b = ⊥
-
--- The same, and that no stop was answered.
+-- What link steps that ended so come to, and that no stop was answered.
 pub record Leads {A : Type 0} (result : Result A StepEnd) (swept : Swept) (wanted : Option BusEvent) (bytes steps : ℕ) (new : State ScriptLinks) : Type 0 where
   pub by : LeadsBy result swept (board_of new wanted bytes steps)
   pub unstopped : new.stopped ≡ None

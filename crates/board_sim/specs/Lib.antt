@@ -2,7 +2,10 @@ pub mod Boards
 pub mod Sweeps
 pub mod Closes
 pub mod Schedule
+pub mod Seats
+pub mod Playing
 pub mod Ends
+pub mod Finishing
 pub mod Views
 pub mod Report
 pub mod Traced

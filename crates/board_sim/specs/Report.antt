@@ -21,6 +21,11 @@ abbrev pub line_end : Option ℕ → List ℕ
 line_end None = []
 line_end (Some last) = if last == 10 then [] else 10 ∷ []
 
+-- The last byte of some more, or the one before them.
+abbrev pub last_behind : Option ℕ → List ℕ → Option ℕ
+last_behind last [] = last
+last_behind last (byte ∷ bytes) = last_behind (Some byte) bytes
+
 -- How the run ended. No report is printed where a write failed or memory was refused.
 abbrev pub kind_text : RunEnd → List ℕ
 kind_text ends.Break = codes "break"

@@ -4,7 +4,11 @@
 #![tactic(auto)]
 
 pub mod end;
+mod nowhere;
+mod peer;
+mod play;
 pub mod report;
+pub mod runs;
 #[cfg(test)]
 mod tests;
 pub mod trace;
