@@ -5,3 +5,6 @@ pub mod Closed
 pub mod Walks
 pub mod Lines
 pub mod Traces
+pub mod Longer
+pub mod Asked
+pub mod Rested

@@ -37,7 +37,7 @@ Short events bytes = (events ≡ 0) ⊎ (bytes < most_read)
 abbrev board_by : Option BusEvent → ℕ → ℕ → Starts → ℕ → Past → Played → Board
 board_by wanted bytes steps starts events past links = record { starts = starts; events = events; past = past; links = links; wanted = wanted; bytes = bytes; steps = steps }
 
-same_board : (wanted : Option BusEvent) (bytes steps : ℕ) (starts starts' : Starts) (events events' : ℕ) (past past' : Past) (links links' : Played)
+pub same_board : (wanted : Option BusEvent) (bytes steps : ℕ) (starts starts' : Starts) (events events' : ℕ) (past past' : Past) (links links' : Played)
     → starts ≡ starts' → events ≡ events' → past ≡ past' → links ≡ links'
     → board_by wanted bytes steps starts events past links ≡ board_by wanted bytes steps starts' events' past' links'
 same_board wanted bytes steps starts starts' events events' past past' links links' a b c d = cc

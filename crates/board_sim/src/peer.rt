@@ -1,6 +1,5 @@
 //! The board beside the microcontroller: the chip with scripted peers, as the firmware's bus asks it.
-ghost use Rattle.std.specs.Prelude.{◌≡◌, ◌<◌, ◌≤◌, ◌+◌, ◌^◌, [], None, OnOk};
-ghost use Rattle.board_bus.specs.declared.event.BusEvent.TheVariants.{Select, Byte, Look};
+ghost use Rattle.std.specs.Prelude.{◌≡◌, ◌<◌, ◌≤◌, ◌+◌, ◌^◌, None};
 ghost use Rattle.chip_sheet.specs.Legal.{Legal};
 ghost use Rattle.chip_shared.specs.Tied.{Tied};
 ghost use Rattle.chip_core.specs.Chip.{Stands};
@@ -11,7 +10,7 @@ ghost use Rattle.avr_run.specs.Told.{Tells};
 ghost use Rattle.board_sim.specs.Boards.{answers, counted, next};
 ghost use Rattle.board_sim.specs.Closes.{closed};
 ghost use Rattle.board_sim.specs.Sweeps.{rested};
-ghost use Rattle.board_sim.specs.Seats.{seen, given, told_of, wanted_of, ClosesTo, IsCause, IsWell, LeadsBy};
+ghost use Rattle.board_sim.specs.Seats.{seen, given, told_of, ClosesTo, IsCause, IsWell, LeadsBy};
 
 use avr_run::ToldPeer;
 use avr_space::{BusIsOver, BusPeer};
