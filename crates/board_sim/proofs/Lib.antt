@@ -5,6 +5,8 @@ pub mod Closed
 pub mod Walks
 pub mod Lines
 pub mod Traces
+pub mod Kept
 pub mod Longer
 pub mod Asked
 pub mod Rested
+pub mod Starts

@@ -102,6 +102,7 @@ impl BoardPeer {
     /// Asks the chip; an event that gets no answer is kept.
     fn ask(&mut self, event: BusEvent) -> Result<BusAnswer, BusIsOver>
         ensures tells { Tells event (told_of self.old) (given event result) (told_of self.new) }
+        ensures starts { self.new.now.starts ≡ self.old.now.starts }
         ensures functional { IsWell self.new → Functional seen IsWell answers next self.old event (given event result) self.new }
     {
         if self.refused.is_some() {
@@ -136,6 +137,7 @@ impl BoardPeer {
         requires { self.old.refused ≡ None }
         ensures rests { LeadsBy result (rested (seen self.old)) (seen self.new) }
         ensures unrefused { self.new.refused ≡ None }
+        ensures starts { self.new.now.starts ≡ self.old.now.starts }
         ensures bytes { self.new.bytes < 8 }
         ensures steps { self.new.steps < 1024 }
     {
@@ -152,6 +154,7 @@ impl BoardPeer {
         requires { self.old.refused ≡ None }
         ensures closes { ClosesTo result (closed (seen self.old)) (seen self.new) }
         ensures unrefused { self.new.refused ≡ None }
+        ensures starts { self.new.now.starts ≡ self.old.now.starts }
     {
         self.shared.closing()
     }
@@ -170,7 +173,7 @@ impl BoardPeer {
 }
 
 impl BusPeer for BoardPeer {
-    ghost did = { λ p c a q. Tells c (told_of p) a (told_of q) × (IsWell q → Functional seen IsWell answers next p c a q) };
+    ghost did = { λ p c a q. Tells c (told_of p) a (told_of q) × (IsWell q → Functional seen IsWell answers next p c a q) × (q.now.starts ≡ p.now.starts) };
 
     fn select(&mut self, low: bool) -> Result<(), BusIsOver> {
         match self.ask(BusEvent::Select(low)) {

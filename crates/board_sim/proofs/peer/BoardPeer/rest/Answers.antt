@@ -1,6 +1,9 @@
-use Rattle.board_sim.specs.Seats.{wanted_of}
+use Rattle.std.proofs.Common.{Some, ap, ◌∙◌}
+use Rattle.board_sim.specs.Seats.{Seat, wanted_of}
 use Rattle.board_sim.specs.Views.{board_of}
+use Rattle.board_sim.proofs.LinkSteps.{ByScript}
 use Rattle.board_sim.proofs.Rested.{due_by_bytes, due_by_steps, rests_not, rests_so, rest_sits}
+use Rattle.board_sim.proofs.Starts.{sweeps_starts}
 use Rattle.board_sim.proofs.peer.BoardPeer.rest.Goals as goal
 use Rattle.board_sim.proofs.peer.BoardPeer.rest.Goals.{else-self-lt-SWEEP_BYTES-via-then-self-lt-SWEEP_BYTES+else-self-lt-SWEEP_STEPS, else-self-lt-SWEEP_BYTES-via-else-self-lt-SWEEP_BYTES}
 
@@ -24,3 +27,7 @@ returns-clause-rests c =
       | else-self-lt-SWEEP_BYTES-via-else-self-lt-SWEEP_BYTES w ↦ due_by_bytes b w.if-self-lt-SWEEP_BYTES.false
     ])
     c.sweep.ensures.steps
+
+pub returns-clause-starts : goal.returns-clause-starts
+returns-clause-starts c =
+    sweeps_starts ByScript 16 c.self.inside.shared (Some 0) c.sweep.result c.sweep.new.self c.sweep.ensures.steps ∙ ap (λ (s : Seat). s.now.starts) c.self.view_is
