@@ -1,21 +1,14 @@
 -- Where the positions of connections start never changes.
-use Rattle.std.proofs.Common.{◌≡◌, ℕ, Bool, Option, Result, Ok, Err, refl, ap, ◌∙◌}
+use Rattle.std.proofs.Common.{◌≡◌, ℕ, Bool, Option, Result, refl, ap, ◌∙◌}
 use Rattle.board_bus.specs.declared.event.BusEvent.{BusEvent}
-use Rattle.board_bus.specs.declared.event.BusAnswer.{BusAnswer}
 use Rattle.avr_core.specs.Ask.{Give, Call, Plays}
 use Rattle.avr_space.specs.Peer.{AnswerTo, OfBus}
 use Rattle.chip_shared.specs.State.{State}
-use Rattle.chip_shared.specs.Asking.{Asks}
 use Rattle.chip_shared.specs.Closing.{Closes}
 use Rattle.chip_shared.specs.Sweeping.{Sweeps}
 use Rattle.chip_shared.specs.declared.shared.StepEnd.{StepEnd}
 use Rattle.chip_shared.specs.declared.closing.Closing.{Closing}
 use Rattle.board_sim.proofs.Kept.{Effect, IsKept, sweeps_keep, closes_keep}
-
--- An event of the bus.
-pub asks_starts : {L : Type 0} (old : State L) (e : BusEvent) (result : Result BusAnswer StepEnd) (new : State L) → Asks old e result new → new.starts ≡ old.starts
-asks_starts old e (Ok a) new it = it.starts
-asks_starts old e (Err end_) new it = it.0.starts
 
 -- A sweep, and closing.
 starts_stay : {L : Type 0} (effect : Effect L) → IsKept effect (λ old new. new.starts ≡ old.starts)
