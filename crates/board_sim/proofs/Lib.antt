@@ -10,3 +10,5 @@ pub mod Longer
 pub mod Asked
 pub mod Rested
 pub mod Starts
+pub mod Printing
+pub mod Going

@@ -81,4 +81,4 @@ pub record IsReady (cycles : ℕ) (s : McuState) (b : Board) : Type 0 where
   pub below : s.devices.cycles < cycles
   pub bytes : b.bytes < 8
   pub steps : b.steps < 1024
-  pub open : b.wanted ≡ None
+  pub none_wanted : b.wanted ≡ None

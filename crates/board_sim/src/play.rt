@@ -1,9 +1,9 @@
 //! A run under way: the microcontroller with the board, step by step, up to what ends it.
-ghost use Rattle.std.specs.Prelude.{◌≡◌, ◌<◌, ◌≤◌, ◌+◌, ◌^◌, None, Some, IsErr, OnErr, OnOk, IfSome};
+ghost use Rattle.std.specs.Prelude.{◌≡◌, ◌⊎◌, ◌<◌, ◌≤◌, ◌+◌, ◌^◌, ℕ, false, [], None, Some, IsErr, OnErr, OnOk};
 ghost use Rattle.wz_base.specs.Outside.{RisesOnly};
 ghost use Rattle.wz_base.specs.Whole.{Appends};
 ghost use Rattle.avr_mcu.specs.Run.{byte_of};
-ghost use Rattle.board_sim.specs.Playing.{printing, Goes, IsReady, Settles};
+ghost use Rattle.board_sim.specs.Playing.{printing, Goes, IsReady, Prints, Settles};
 ghost use Rattle.board_sim.specs.Seats.{seen, wanted_of, IsWell};
 ghost use Rattle.avr_run.specs.Told.{EndWants};
 ghost use Rattle.avr_mcu.specs.declared.run.RunEnd as firmware;
@@ -44,7 +44,7 @@ pub struct Play {
 fn put<K: Sink>(out: &mut K, byte: Option<u8>) -> Result<(), Failed>
     ensures ok { OnOk result (Appends (K.written out.old) (byte_of byte) (K.written out.new)) }
     ensures err { OnErr result (K.written out.new ≡ K.written out.old) }
-    ensures some { OnErr result (byte ≡ None → ⊥) }
+    ensures byte { OnErr result ((v : ℕ) × (byte ≡ Some v)) }
     ensures faults { RisesOnly (IsErr result) (K.faults out.old) (K.faults out.new) }
 {
     match byte {
@@ -76,16 +76,16 @@ impl Play {
         end: Option<FirmwareEnd>,
         out: &mut K,
     ) -> Option<Cut>
-        requires steps { self.old.board.steps + instructions < 2 ^ 64 }
-        requires open { end ≡ None → self.old.board.refused ≡ None }
+        requires steps { IsWell self.old.board → self.old.board.steps + instructions < 2 ^ 64 }
+        requires unrefused { end ≡ None → self.old.board.refused ≡ None }
         requires wants { (e : firmware.RunEnd) → end ≡ Some e → EndWants e (wanted_of self.old.board.refused) }
         ensures settles { Settles (seen self.old.board) instructions byte end result (seen self.new.board) (printing (K.written out.old) self.old.last) (printing (K.written out.new) self.new.last) }
         ensures mcu { self.new.mcu ≡ self.old.mcu }
         ensures cycles { self.new.cycles ≡ self.old.cycles }
-        ensures well { (result ≡ Some Cut.NoMemory → ⊥) → IsWell self.old.board }
+        ensures well { IsWell self.old.board ⊎ ((result ≡ Some Cut.NoMemory) × Prints (printing (K.written out.old) self.old.last) [] (printing (K.written out.new) self.new.last)) }
         ensures bytes { result ≡ None → self.new.board.bytes < 8 }
         ensures steps { result ≡ None → self.new.board.steps < 1024 }
-        ensures open { result ≡ None → self.new.board.refused ≡ None }
+        ensures unrefused { result ≡ None → self.new.board.refused ≡ None }
         ensures wants { (e : firmware.RunEnd) → result ≡ Some (Cut.Step e) → EndWants e (wanted_of self.new.board.refused) }
         ensures faults { RisesOnly (result ≡ Some Cut.WriteFault) (K.faults out.old) (K.faults out.new) }
     {
