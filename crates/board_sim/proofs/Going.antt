@@ -1,5 +1,5 @@
 -- Steps of a run, as its loop makes them, are steps of the schedule.
-use Rattle.std.proofs.Common.{◌≡◌, ◌⊎◌, inl, inr, ℕ, zero, suc, ◌+◌, ◌<◌, ◌≤◌, Bool, true, false, ◌||◌, List, [], ◌∷◌, ◌++◌, Option, Some, None, if◌then◌else◌, nat_le, refl, sym, ap, subst, ◌∙◌, append_assoc, append-nil, arith}
+use Rattle.std.proofs.Common.{◌≡◌, ◌⊎◌, inl, inr, ℕ, zero, suc, ◌+◌, ◌<◌, ◌≤◌, Bool, true, false, List, [], ◌∷◌, ◌++◌, Option, Some, None, if◌then◌else◌, nat_le, refl, sym, ap, subst, ◌∙◌, append_assoc, append-nil, arith}
 use Rattle.std.proofs.lemmas.Bool.Decides.{nat_tests}
 use Rattle.board_bus.specs.declared.event.BusEvent.{BusEvent}
 use Rattle.chip_sheet.specs.declared.event.Entry.TheVariants.{Bus}
@@ -18,13 +18,14 @@ use Rattle.avr_run.specs.Steps.{IsStep, IsStretch, Functional, Played, played, i
 use Rattle.avr_run.proofs.Played.{plays-by}
 use Rattle.avr_mcu.specs.Answers.{first_wanted}
 use Rattle.board_sim.specs.Boards.{Board, answers, next, counted, is_refused}
-use Rattle.board_sim.specs.Sweeps.{Swept, rested, whole, recounted, swept_from, is_sweep_due}
+use Rattle.board_sim.specs.Sweeps.{Swept, rested, whole}
 use Rattle.board_sim.specs.Schedule.{Standing, Turn, GoesTo, turn, turned}
 use Rattle.board_sim.specs.Seats.{Seat, seen, wanted_of, IsWell}
 use Rattle.board_sim.specs.Playing.{Printed, Prints, Settles, CutAt, Walked, WalkedTo, Goes, IsReady, later, standing}
 use Rattle.board_sim.specs.declared.peer.Unanswered.{Unanswered}
 use Rattle.board_sim.specs.declared.play.Cut.{Cut}
 use Rattle.board_sim.specs.declared.play.Cut.TheVariants as cuts
+use Rattle.board_sim.proofs.Rested.{not_due, rested_not}
 use Rattle.board_sim.proofs.Printing.{prints_none, prints_more}
 
 -- Bytes that were printed before.
@@ -75,9 +76,6 @@ walked_goes (Some cut) cycles s m now b c left old mid new way goes = record {
   prints = prints_more old mid goes.mid way.serial goes.at.serial way.prints goes.prints;
   cuts = goes.cuts;
 }
-
-pub walked_none : (cycles : ℕ) (s now : McuState) (b : Board) (p : Printed) → now ≡ s → Walked cycles s b now b p p
-walked_none cycles s now b p same = record { steps = 0; serial = []; goes = ap (λ (x : McuState). standing x b []) same; prints = prints_none p }
 
 -- A step of the schedule, told by what it comes to.
 abbrev at_turn : McuState → Board → Option firmware.RunEnd → Turn
@@ -157,14 +155,6 @@ below_limit cycles at below =
     let no : nat_le cycles at ≡ false = grind (arith, nat_tests) in
     ap (λ (x : Bool). if x then Some firmwares.CycleLimit else None) no
 
-not_due : (b : Board) → b.bytes < 8 → b.steps < 1024 → rested b ≡ whole b
-unfolding rested
-not_due b bytes steps =
-    let few : nat_le 8 b.bytes ≡ false = grind (arith, nat_tests) in
-    let short : nat_le 1024 b.steps ≡ false = grind (arith, nat_tests) in
-    ap (λ (x : Bool). if x || nat_le 1024 b.steps then swept_from 16 (recounted b) (Some 0) else whole b) few
-    ∙ ap (λ (x : Bool). if x then swept_from 16 (recounted b) (Some 0) else whole b) short
-
 still_taken : (s : McuState) → printed s ≡ None → s ≡ taken s
 still_taken s none = ap (λ (byte : Option ℕ). record s { devices = record s.devices { serial = record s.devices.serial { usart = record s.devices.serial.usart { printed = byte } } } }) none
 
@@ -186,7 +176,7 @@ quiet_goes cycles (suc k) s t b unasked bytes steps none goes below still =
     let is : turn cycles mid (later k b) ≡ at_turn t (later (suc k) b) end =
     move_is cycles (printed s) mid t (later k b) unasked goes.2 ∙ ap (λ (c : Board). at_turn t c end) (later_one k b) in
     let last : GoesTo 1 cycles (standing mid (later k b) []) (standing t (later (suc k) b) (byte_of (printed t))) =
-    one_goes cycles mid t t (later k b) (later (suc k) b) (later (suc k) b) end is (below_limit cycles t.devices.cycles below) (not_due (later (suc k) b) bytes steps) (still_taken t still) in
+    one_goes cycles mid t t (later k b) (later (suc k) b) (later (suc k) b) end is (below_limit cycles t.devices.cycles below) (rested_not (later (suc k) b) (not_due (later (suc k) b) bytes steps)) (still_taken t still) in
     let one : k + 1 ≡ suc k = omega arith in
     subst (λ n. GoesTo n cycles (standing s b []) (standing t (later (suc k) b) [])) one
     (goes_then k 1 cycles (standing s b []) (standing mid (later k b) []) (standing t (later (suc k) b) []) way
@@ -212,12 +202,6 @@ stretch_goes cut cycles (suc k) s m now b left byte end old new ready some most 
     walked_goes cut cycles s mid now b (later k b) left old old new way
     (settled_goes cut cycles mid made.left now (later k b) b left (suc k) end old new is (same ∙ made.leaves)
     (subst (λ (x : Option ℕ). Settles b (suc k) x end cut left old new) made.prints it))
-
--- One that made none changes nothing.
-pub stretch_none : (cycles : ℕ) (s now : McuState) (steps : ℕ) (byte : Option ℕ) (end : Option firmware.RunEnd) → IsStretch cycles s steps byte end now → steps ≡ 0 → printed s ≡ None → now ≡ s
-stretch_none cycles s now zero byte end made none still =
-    made.leaves ∙ ap (λ (x : McuState). taken x) made.goes ∙ sym (still_taken s still)
-stretch_none cycles s now (suc k) byte end made none still = absurd (omega (arith, none))
 
 -- A step counts one instruction at most, and its events none.
 pub one_at_most : (went : McuWent) → instructions_of went ≤ 1

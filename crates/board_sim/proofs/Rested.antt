@@ -20,7 +20,7 @@ use Rattle.board_sim.proofs.Longer.{closing_adds}
 use Rattle.board_sim.proofs.Swept.{sweep_is}
 
 -- Whether a sweep is due, by the counts.
-not_due : (b : Board) → b.bytes < 8 → b.steps < 1024 → is_sweep_due b ≡ false
+pub not_due : (b : Board) → b.bytes < 8 → b.steps < 1024 → is_sweep_due b ≡ false
 not_due b bytes steps = rw (lt-leb 8 b.bytes bytes, lt-leb 1024 b.steps steps) refl
 
 pub due_by_bytes : (b : Board) → 8 ≤ b.bytes → is_sweep_due b ≡ true
@@ -29,7 +29,7 @@ due_by_bytes b many = rw (le-leb 8 b.bytes many) refl
 pub due_by_steps : (b : Board) → b.bytes < 8 → 1024 ≤ b.steps → is_sweep_due b ≡ true
 due_by_steps b few many = rw (lt-leb 8 b.bytes few, le-leb 1024 b.steps many) refl
 
-rested_not : (b : Board) → is_sweep_due b ≡ false → rested b ≡ whole b
+pub rested_not : (b : Board) → is_sweep_due b ≡ false → rested b ≡ whole b
 unfolding rested
 rested_not b none = rw none refl
 
