@@ -82,6 +82,7 @@ impl Play {
         ensures settles { Settles (seen self.old.board) instructions byte end result (seen self.new.board) (printing (K.written out.old) self.old.last) (printing (K.written out.new) self.new.last) }
         ensures mcu { self.new.mcu ≡ self.old.mcu }
         ensures cycles { self.new.cycles ≡ self.old.cycles }
+        ensures starts { self.new.board.now.starts ≡ self.old.board.now.starts }
         ensures well { IsWell self.old.board ⊎ ((result ≡ Some Cut.NoMemory) × Prints (printing (K.written out.old) self.old.last) [] (printing (K.written out.new) self.new.last)) }
         ensures bytes { result ≡ None → self.new.board.bytes < 8 }
         ensures steps { result ≡ None → self.new.board.steps < 1024 }
@@ -118,6 +119,7 @@ impl Play {
         ensures goes { Goes result self.old.cycles self.old.mcu (seen self.old.board) self.new.mcu (seen self.new.board) (printing (K.written out.old) self.old.last) (printing (K.written out.new) self.new.last) }
         ensures ready { result ≡ None → IsReady self.new.cycles self.new.mcu (seen self.new.board) }
         ensures cycles { self.new.cycles ≡ self.old.cycles }
+        ensures starts { self.new.board.now.starts ≡ self.old.board.now.starts }
         ensures rises { result ≡ None → self.old.mcu.devices.cycles + 1 ≤ self.new.mcu.devices.cycles }
         ensures wants { (e : firmware.RunEnd) → result ≡ Some (Cut.Step e) → EndWants e (wanted_of self.new.board.refused) }
         ensures faults { RisesOnly (result ≡ Some Cut.WriteFault) (K.faults out.old) (K.faults out.new) }
@@ -133,6 +135,7 @@ impl Play {
         ensures goes { Goes result self.old.cycles self.old.mcu (seen self.old.board) self.new.mcu (seen self.new.board) (printing (K.written out.old) self.old.last) (printing (K.written out.new) self.new.last) }
         ensures ready { result ≡ None → IsReady self.new.cycles self.new.mcu (seen self.new.board) }
         ensures cycles { self.new.cycles ≡ self.old.cycles }
+        ensures starts { self.new.board.now.starts ≡ self.old.board.now.starts }
         ensures rises { result ≡ None → self.old.mcu.devices.cycles ≤ self.new.mcu.devices.cycles }
         ensures wants { (e : firmware.RunEnd) → result ≡ Some (Cut.Step e) → EndWants e (wanted_of self.new.board.refused) }
         ensures faults { RisesOnly (result ≡ Some Cut.WriteFault) (K.faults out.old) (K.faults out.new) }
@@ -151,6 +154,7 @@ impl Play {
         requires limit { self.old.cycles ≤ 2 ^ 63 }
         ensures goes { Goes (Some result) self.old.cycles self.old.mcu (seen self.old.board) self.new.mcu (seen self.new.board) (printing (K.written out.old) self.old.last) (printing (K.written out.new) self.new.last) }
         ensures cycles { self.new.cycles ≡ self.old.cycles }
+        ensures starts { self.new.board.now.starts ≡ self.old.board.now.starts }
         ensures wants { (e : firmware.RunEnd) → result ≡ Cut.Step e → EndWants e (wanted_of self.new.board.refused) }
         ensures faults { RisesOnly (result ≡ Cut.WriteFault) (K.faults out.old) (K.faults out.new) }
     {

@@ -1,4 +1,4 @@
-use Rattle.std.proofs.Common.{◌≡◌, Some, None, subst, ◌∙◌}
+use Rattle.std.proofs.Common.{Some, None, subst, ◌∙◌}
 use Rattle.board_sim.specs.Playing.{printing, Goes, Walked}
 use Rattle.board_sim.specs.Seats.{seen}
 use Rattle.board_sim.proofs.Going.{walked_goes}
@@ -24,6 +24,7 @@ steps-preserved g c =
           (subst (λ n. Walked n turn.mcu (seen turn.board) hurry.mcu (seen hurry.board) mid new) same c.in-None-hurry.ensures.goes);
       ready = c.hurry.ensures.ready c.in-None-hurry.is;
       cycles = c.hurry.ensures.cycles ∙ same;
+      starts = c.hurry.ensures.starts ∙ (c.turn.ensures.starts ∙ c.steps.invariant.starts);
       faults = c.in-None-hurry.ensures.faults.still (λ e. absurd (cc)) ∙ (c.in-None.ensures.faults.still (λ e. absurd (cc)) ∙ c.steps.invariant.faults);
     }
 

@@ -1,4 +1,4 @@
-use Rattle.std.proofs.Common.{◌≡◌, ◌≤◌, ◌+◌, ◌-◌, arith}
+use Rattle.std.proofs.Common.{◌≤◌, ◌+◌, arith}
 use Rattle.board_sim.specs.Playing.{printing}
 use Rattle.board_sim.specs.Seats.{seen}
 use Rattle.board_sim.proofs.Going.{stretch_goes}
