@@ -12,3 +12,5 @@ pub mod Rested
 pub mod Starts
 pub mod Printing
 pub mod Going
+pub mod Turns
+pub mod Way

@@ -1,5 +1,4 @@
 pub mod Kept
-pub mod Turns
 pub mod Grows
 pub mod Told
 pub mod Quiet

@@ -6,9 +6,6 @@ use Rattle.board_bus.specs.declared.event.BusEvent.{BusEvent}
 use Rattle.chip_sheet.specs.declared.stop.ChipStop.{ChipStop}
 use Rattle.chip_sheet.specs.Streams.{Starts}
 use Rattle.chip_sheet.specs.Stops.{stop}
-use Rattle.avr_core.specs.Ask.{Give, Call}
-use Rattle.avr_core.specs.Trees.{All}
-use Rattle.avr_space.specs.Peer.{OfBus}
 use Rattle.avr_mcu.specs.Run.{run, after, byte_of}
 use Rattle.avr_mcu.specs.Settled.{Times}
 use Rattle.avr_mcu.specs.State.{McuState, reset_state, printed, taken}
@@ -28,14 +25,11 @@ use Rattle.board_sim.specs.Schedule.{Outcome, Turn, turn, turns, sched, finished
 use Rattle.board_sim.specs.declared.end.RunEnd.{RunEnd}
 use Rattle.board_sim.specs.declared.end.RunEnd.TheVariants as ends
 use Rattle.board_sim_laws.specs.Runs.{Ends, EndsBy, FirmwareRuns}
-use Rattle.board_sim_laws.proofs.Turns.{turn_by, first_turn, behind_behind}
+use Rattle.board_sim.proofs.Turns.{turn_by, first_turn, behind_behind}
+use Rattle.board_sim.proofs.Way.{played_all}
 use Rattle.board_sim_laws.proofs.Told.{told_of, IsDenied, played_came, played_denies}
 use Rattle.board_sim_laws.proofs.Quiet.{Same, rest_same, closing_same}
 use Rattle.board_sim_laws.proofs.Cut.{rest_full}
-
-pub played_all : {R : Type 0} (P : R → Type 0) (tree : OfBus R) (b : Board) → All P tree → P (played answers next tree b).result
-played_all P (Give r) b all = all
-played_all P (Call c go) b all = played_all P (go (answers b c)) (next b c) (all (answers b c))
 
 -- A step of the run.
 record Steps (cycles : ℕ) (start : McuState) (serial : List ℕ) (s : McuState) (b : Board) (t : Turn) : Type 0 where

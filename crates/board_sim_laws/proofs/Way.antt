@@ -1,54 +1,12 @@
 -- Where a run stands between two steps is on the way to its end.
-use Rattle.std.proofs.Common.{◌≡◌, ℕ, zero, suc, ◌+◌, ◌-◌, ◌≤◌, ◌<◌, if◌then◌else◌, [], ◌++◌, Option, None, refl, sym, ap, ◌∙◌, subst, append_assoc, arith}
+use Rattle.std.proofs.Common.{ℕ, suc, ◌++◌, refl, sym, subst, append_assoc}
 use Rattle.avr_mcu.specs.Run.{byte_of}
-use Rattle.avr_mcu.specs.Settled.{Times}
-use Rattle.avr_mcu.specs.State.{McuState, reset_state, printed, taken}
-use Rattle.avr_mcu.specs.Step.{Gone, stepped}
-use Rattle.avr_mcu.specs.declared.run.RunEnd as firmware
-use Rattle.avr_mcu.proofs.Fuel.{goes-on}
-use Rattle.avr_mcu.proofs.Timing.{step-times}
-use Rattle.avr_run.specs.Steps.{Played, played}
-use Rattle.board_sim.specs.Boards.{Board, answers, next}
-use Rattle.board_sim.specs.Sweeps.{Swept, rested}
-use Rattle.board_sim.specs.Schedule.{Outcome, Standing, GoesTo, turn, turns, sched, behind, over_at}
-use Rattle.board_sim.specs.declared.end.RunEnd.TheVariants as ends
+use Rattle.avr_mcu.specs.State.{printed}
+use Rattle.board_sim.specs.Schedule.{Outcome, Standing, turn, turns, behind}
+use Rattle.board_sim.proofs.Turns.{turn_by, first_turn}
+use Rattle.board_sim.proofs.Way.{way_left}
 use Rattle.board_sim_laws.specs.Way.{IsOnTheWay, WayLeads}
-use Rattle.board_sim_laws.proofs.Turns.{turn_by, first_turn, behind_behind}
 use Rattle.board_sim_laws.proofs.Grows.{adds_still, turn_adds, turn_left_adds}
-use Rattle.board_sim_laws.proofs.Runs.{played_all}
-
--- A step that goes on took a cycle, and is below the limit.
-turn_rises : (cycles : ℕ) (s : McuState) (b : Board) → (turn cycles s b).end ≡ None → (s.devices.cycles + 1 ≤ (turn cycles s b).state.devices.cycles) × ((turn cycles s b).state.devices.cycles < cycles)
-unfolding turn
-turn_rises cycles s b on =
-    let p : Played Board Gone = played answers next (stepped s) b in
-    goes-on p.bus.wanted p.result.went cycles s.devices.cycles p.result.state.devices.cycles (played_all (Times s) (stepped s) b (step-times s)) on
-
--- So there are no more steps than cycles.
-pub way_short : (steps cycles : ℕ) (a z : Standing) → a.state.devices.cycles ≤ cycles → GoesTo steps cycles a z → a.state.devices.cycles + steps ≤ cycles
-way_short zero cycles a z within goes = omega arith
-way_short (suc more) cycles a z within goes =
-    let t = turn cycles a.state a.board in
-    let rises = turn_rises cycles a.state a.board goes.0 in
-    let rest = way_short more cycles (record { state = taken t.state; board = (rested t.board).board; serial = a.serial ++ byte_of (printed t.state) }) z (omega (arith, rises)) goes.1.1 in
-    omega (arith, rises, rest)
-
--- The run from a standing is the rest of the whole run.
-pub way_goes : (steps rest cycles : ℕ) (a z : Standing) → GoesTo steps cycles a z → behind a.serial (turns (steps + rest) cycles a.state a.board) ≡ behind z.serial (turns rest cycles z.state z.board)
-way_goes zero rest cycles a z goes =
-    let none : zero + rest ≡ rest = omega arith in
-    ap (λ (n : ℕ). behind a.serial (turns n cycles a.state a.board)) none ∙ ap (λ (x : Standing). behind x.serial (turns rest cycles x.state x.board)) (sym goes)
-way_goes (suc more) rest cycles a z goes =
-    let t = turn cycles a.state a.board in
-    let r : Swept = rested t.board in
-    let bytes = byte_of (printed t.state) in
-    let one : suc more + rest ≡ suc (more + rest) = omega arith in
-    ap (λ (n : ℕ). behind a.serial (turns n cycles a.state a.board)) one
-    ∙ ap (behind a.serial) (first_turn (more + rest) cycles a.state a.board)
-    ∙ ap (λ (end : Option firmware.RunEnd). behind a.serial (behind bytes (turn_by end (more + rest) cycles t.state t.board))) goes.0
-    ∙ ap (λ cut. behind a.serial (behind bytes (if cut then over_at t.state r.board ends.TraceFull else turns (more + rest) cycles (taken t.state) r.board))) goes.1.0
-    ∙ sym (behind_behind a.serial bytes (turns (more + rest) cycles (taken t.state) r.board))
-    ∙ way_goes more rest cycles (record { state = taken t.state; board = r.board; serial = a.serial ++ bytes }) z goes.1.1
 
 -- One step more of what is left, and what comes behind it.
 on_the_way : (rest cycles : ℕ) (z : Standing) → IsOnTheWay cycles z (behind z.serial (turns (suc rest) cycles z.state z.board))
@@ -65,15 +23,7 @@ on_the_way rest cycles z =
     } in
     subst (λ (x : Outcome). IsOnTheWay cycles z (behind z.serial x)) (sym (first_turn rest cycles z.state z.board)) here
 
-rest_of : (steps cycles : ℕ) → steps ≤ cycles → (rest : ℕ) × (cycles + 1 ≡ steps + suc rest)
-rest_of steps cycles few = (cycles - steps, let e : cycles + 1 ≡ steps + suc (cycles - steps) = omega arith in e)
-
 pub way_leads : WayLeads
-unfolding sched
 way_leads steps cycles image b z goes =
-    let a : Standing = record { state = reset_state image; board = b; serial = [] } in
-    let few : 0 + steps ≤ cycles = way_short steps cycles a z (omega arith) goes in
-    let left = rest_of steps cycles (omega (arith, few)) in
-    let whole : turns (cycles + 1) cycles (reset_state image) b ≡ behind z.serial (turns (suc left.0) cycles z.state z.board) =
-    ap (λ (n : ℕ). turns n cycles (reset_state image) b) left.1 ∙ way_goes steps (suc left.0) cycles a z goes in
-    subst (IsOnTheWay cycles z) (sym whole) (on_the_way left.0 cycles z)
+    let left = way_left steps cycles image b z goes in
+    subst (IsOnTheWay cycles z) (sym left.is) (on_the_way left.rest cycles z)
