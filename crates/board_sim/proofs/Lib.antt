@@ -14,3 +14,6 @@ pub mod Printing
 pub mod Going
 pub mod Turns
 pub mod Way
+pub mod Ending
+pub mod Ran
+pub mod Left

@@ -1,15 +1,21 @@
 -- The end of a run: closing, the cause of its end, and the report.
-use Rattle.std.specs.Prelude.{◌≡◌, ◌⊎◌, ℕ, List, Option, Some}
+use Rattle.std.specs.Prelude.{◌≡◌, ℕ, List, Option, Some}
 use Rattle.wz_base.specs.Whole.{Appends, AppendsFront}
-use Rattle.avr_mcu.specs.State.{McuState, printed, reset_state}
+use Rattle.chip_sheet.specs.Legal.{Legal}
+use Rattle.chip_shared.specs.Tied.{Tied}
+use Rattle.link_script.specs.Links.{played_of}
+use Rattle.link_script.specs.Play.{shown}
+use Rattle.avr_mcu.specs.State.{McuState, printed}
 use Rattle.board_sim.specs.Boards.{Board}
 use Rattle.board_sim.specs.Schedule.{Outcome, finished, sched, turn}
 use Rattle.board_sim.specs.Ends.{OnItsWay}
 use Rattle.board_sim.specs.Playing.{Printed, Prints}
+use Rattle.board_sim.specs.Seats.{Seat}
 use Rattle.board_sim.specs.declared.play.Cut.{Cut}
 use Rattle.board_sim.specs.declared.play.Cut.TheVariants as cuts
 use Rattle.board_sim.specs.declared.end.RunEnd.{RunEnd}
 use Rattle.board_sim.specs.declared.end.RunEnd.TheVariants as ends
+use Rattle.board_sim.specs.declared.end.SimEnd.{SimEnd}
 
 -- The end, the history and the peers of an outcome.
 pub record Leaves (o : Outcome) (end : RunEnd) (left : Board) : Type 0 where
@@ -18,8 +24,9 @@ pub record Leaves (o : Outcome) (end : RunEnd) (left : Board) : Type 0 where
   pub links_are : left.links ≡ o.links
 
 -- What is made of a cut run by what cut it: where its last step ended it, that is finished by the schedule. Where memory runs out, there
--- is no more to say.
+-- is no more to say, but that no byte failed to be written.
 abbrev pub Finishes : RunEnd → Cut → McuState → Board → Board → Type 0
+Finishes ends.NoMemory cuts.WriteFault s b left = ⊥
 Finishes ends.NoMemory cut s b left = Unit {0}
 Finishes end (cuts.Step e) s b left = Leaves (finished s b e) end left
 Finishes end cuts.TraceFull s b left = (end ≡ ends.TraceFull) × (left ≡ b)
@@ -52,3 +59,18 @@ abbrev pub Reports : RunEnd → List ℕ → RunEnd → Option (List ℕ) → Op
 Reports end text ends.WriteFault old new = AppendsFront old text new
 Reports end text ends.NoMemory old new = AppendsFront old text new
 Reports end text result old new = (result ≡ end) × Appends old text new
+
+-- A report, where one is due: a run that ended by a failed write or for want of memory has none. Its trace, where it has none for want
+-- of memory alone, is told so too.
+abbrev pub ReportsBehind : RunEnd → List ℕ → RunEnd → Option (List ℕ) → Option (List ℕ) → Type 0
+ReportsBehind ends.WriteFault text result old new = (result ≡ ends.WriteFault) × (new ≡ old)
+ReportsBehind ends.NoMemory text result old new = (result ≡ ends.NoMemory) × (new ≡ old)
+ReportsBehind end text result old new = Reports end text result old new
+
+-- What is left of a run: its history, its peers, and its cycles. The history is legal, and the peers agree with it.
+pub record IsLeft (seat : Seat) (s : McuState) (r : SimEnd) : Type 0 where
+  pub past_is : r.history.past ≡ seat.now.log.past
+  pub links_are : r.links ≡ Some seat.now.links
+  pub cycles_are : r.cycles ≡ s.devices.cycles
+  pub legal : Legal seat.now.starts seat.now.log.past
+  pub tied : Tied seat.now.starts seat.now.log.past (shown (played_of seat.now.links))

@@ -2,23 +2,19 @@
 ghost use Rattle.std.specs.Prelude.{◌≡◌, ◌≤◌, ◌^◌, ℕ, List, [], None, Some, IfOk};
 ghost use Rattle.wz_base.specs.Outside.{RisesOnly};
 ghost use Rattle.chip_core.specs.Chip.{Stands};
-ghost use Rattle.chip_sheet.specs.Legal.{Legal};
-ghost use Rattle.chip_sheet.specs.Past.{Past};
 ghost use Rattle.chip_sheet.specs.Streams.{Starts};
-ghost use Rattle.chip_shared.specs.Tied.{Tied};
-ghost use Rattle.link_script.specs.Links.{played_of};
-ghost use Rattle.link_script.specs.Play.{shown};
 ghost use Rattle.avr_mcu.specs.State.{McuState, reset_state};
 ghost use Rattle.avr_run.specs.Told.{EndWants};
 ghost use Rattle.avr_mcu.specs.declared.run.RunEnd as firmware;
+ghost use Rattle.chip_hist.specs.declared.limits.TheConstants.{HIGHEST_LIMIT};
 ghost use Rattle.board_file.specs.Boards.{IsWithinLimits};
-ghost use Rattle.board_sim.specs.Boards.{Board as SeenBoard};
 ghost use Rattle.board_sim.specs.Closes.{closed};
-ghost use Rattle.board_sim.specs.Ends.{fresh_board, starts_of, traced, Holds, Sims, TracesRun};
-ghost use Rattle.board_sim.specs.Finishing.{Finishes, RanTo, Reports};
+ghost use Rattle.board_sim.specs.Ends.{fresh_board, Sims, TracesRun};
+ghost use Rattle.board_sim.specs.Finishing.{Finishes, IsLeft, RanTo, Reports, ReportsBehind};
 ghost use Rattle.board_sim.specs.Playing.{printing, IsReady};
 ghost use Rattle.board_sim.specs.Report.{report_of};
 ghost use Rattle.board_sim.specs.Seats.{seen, wanted_of};
+ghost use Rattle.board_sim.specs.Traced.{trace_text};
 
 use crate::end::{RunEnd, SimEnd};
 use crate::nowhere::Nowhere;
@@ -79,6 +75,7 @@ fn close(board: &mut BoardPeer, end: RunEnd) -> RunEnd
     requires { board.old.refused ≡ None }
     ensures end { (result ≡ RunEnd.NoMemory → ⊥) → result ≡ end }
     ensures closes { (result ≡ RunEnd.NoMemory → ⊥) → closed (seen board.old) ≡ seen board.new }
+    ensures starts { board.new.now.starts ≡ board.old.now.starts }
 {
     match board.close() {
         Closing::NoMemory => RunEnd::NoMemory,
@@ -89,7 +86,8 @@ fn close(board: &mut BoardPeer, end: RunEnd) -> RunEnd
 /// The end of a run whose last step ended it.
 fn finish_step(board: &mut BoardPeer, end: FirmwareEnd) -> RunEnd
     requires { EndWants end (wanted_of board.old.refused) }
-    ensures { (s : McuState) → Finishes result (Cut.Step end) s (seen board.old) (seen board.new) }
+    ensures finishes { (s : McuState) → Finishes result (Cut.Step end) s (seen board.old) (seen board.new) }
+    ensures starts { board.new.now.starts ≡ board.old.now.starts }
 {
     match end {
         FirmwareEnd::Break => close(board, RunEnd::Break),
@@ -103,7 +101,8 @@ fn finish_step(board: &mut BoardPeer, end: FirmwareEnd) -> RunEnd
 /// The end of a run that was cut.
 fn finish(board: &mut BoardPeer, cut: Cut) -> RunEnd
     requires { (e : firmware.RunEnd) → cut ≡ Cut.Step e → EndWants e (wanted_of board.old.refused) }
-    ensures { (s : McuState) → Finishes result cut s (seen board.old) (seen board.new) }
+    ensures finishes { (s : McuState) → Finishes result cut s (seen board.old) (seen board.new) }
+    ensures starts { board.new.now.starts ≡ board.old.now.starts }
 {
     match cut {
         Cut::Step(end) => finish_step(board, end),
@@ -119,6 +118,7 @@ fn run<K: Sink>(play: &mut Play, out: &mut K) -> RunEnd
     requires limit { play.old.cycles ≤ 2 ^ 63 }
     ensures ran { (image : List ℕ) → play.old.mcu ≡ reset_state image → RanTo result play.old.cycles image (seen play.old.board) play.new.mcu (seen play.new.board)
         (printing (K.written out.old) play.old.last) (printing (K.written out.new) play.new.last) }
+    ensures starts { play.new.board.now.starts ≡ play.old.board.now.starts }
     ensures faults { RisesOnly (result ≡ RunEnd.WriteFault) (K.faults out.old) (K.faults out.new) }
 {
     let cut = play.go(out);
@@ -150,7 +150,13 @@ fn write_report<K: Sink>(
 }
 
 /// What a run leaves that ended so, with its report where one is due.
-fn with_report<K: Sink>(alloc: Global, play: Play, end: RunEnd, out: &mut K) -> SimEnd {
+fn with_report<K: Sink>(alloc: Global, play: Play, end: RunEnd, out: &mut K) -> SimEnd
+    ensures left { IsLeft play.board play.mcu result }
+    ensures reports { ReportsBehind end (report_of play.board.now.starts play.board.now.log.past play.last play.mcu.devices.cycles play.mcu.trail end) result.end
+        (K.written out.old) (K.written out.new) }
+    ensures faults { (end ≡ RunEnd.WriteFault → ⊥) → RisesOnly (result.end ≡ RunEnd.WriteFault) (K.faults out.old) (K.faults out.new) }
+    ensures still { end ≡ RunEnd.WriteFault → K.faults out.new ≡ K.faults out.old }
+{
     let cycles = play.mcu.cycles();
     let (chip, history, links) = play.board.into_parts();
     let end = match end {
@@ -166,7 +172,13 @@ fn with_report<K: Sink>(alloc: Global, play: Play, end: RunEnd, out: &mut K) -> 
 }
 
 /// What a run leaves for which there was no memory.
-fn unmade(alloc: Global, events: u64) -> SimEnd {
+fn unmade(alloc: Global, events: u64) -> SimEnd
+    requires { (1 ≤ events) × (events ≤ HIGHEST_LIMIT) }
+    ensures history { result.history.past ≡ [] }
+    ensures links { result.links ≡ None }
+    ensures cycles { result.cycles ≡ 0 }
+    ensures end { result.end ≡ RunEnd.NoMemory }
+{
     SimEnd {
         history: History::new(alloc, events),
         links: None,
@@ -197,7 +209,10 @@ pub fn sim<K: Sink>(alloc: Global, image: Image, board: Board, out: &mut K) -> S
 }
 
 /// What a run leaves that ended so, and whose serial output nobody saw.
-fn without_report(play: Play, end: RunEnd) -> SimEnd {
+fn without_report(play: Play, end: RunEnd) -> SimEnd
+    ensures left { IsLeft play.board play.mcu result }
+    ensures end { result.end ≡ end }
+{
     let cycles = play.mcu.cycles();
     let (_chip, history, links) = play.board.into_parts();
     SimEnd {
@@ -216,7 +231,11 @@ fn end_traced<K: Sink>(
     rx_start: u16,
     end: RunEnd,
     out: &mut K,
-) -> RunEnd {
+) -> RunEnd
+    requires { end ≡ RunEnd.WriteFault → ⊥ }
+    ensures traces { ReportsBehind end (trace_text (record { tx = tx_start; rx = rx_start }) history.now.past) result (K.written out.old) (K.written out.new) }
+    ensures faults { RisesOnly (result ≡ RunEnd.WriteFault) (K.faults out.old) (K.faults out.new) }
+{
     match end {
         RunEnd::NoMemory => RunEnd::NoMemory,
         _ => match write_trace(alloc, history, tx_start, rx_start, out) {
