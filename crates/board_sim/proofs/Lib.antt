@@ -17,3 +17,8 @@ pub mod Way
 pub mod Ending
 pub mod Ran
 pub mod Left
+pub mod BoardKept
+pub mod Told
+pub mod Quiet
+pub mod Cut
+pub mod FirmwareRun

@@ -10,3 +10,4 @@ pub mod Views
 pub mod Report
 pub mod Traced
 pub mod Exchanges
+pub mod FirmwareRuns

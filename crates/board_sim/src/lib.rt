@@ -4,6 +4,7 @@
 #![tactic(auto)]
 
 pub mod end;
+pub mod laws;
 mod nowhere;
 mod peer;
 mod play;

@@ -21,7 +21,7 @@ use Rattle.board_sim.specs.Schedule.{Outcome, turn, turns, finished, over_at}
 use Rattle.board_sim.specs.declared.end.RunEnd.TheVariants as ends
 use Rattle.board_sim_laws.specs.Grows.{Adds, TurnAdds, SweepAdds, ClosingAdds, RunAdds}
 use Rattle.board_sim.proofs.Turns.{rest_by, turn_by, first_turn}
-use Rattle.board_sim_laws.proofs.Kept.{IsKept, chosen, rest_keeps, closing_keeps}
+use Rattle.board_sim.proofs.BoardKept.{IsKept, chosen, rest_keeps, closing_keeps}
 
 -- Boards by what they add.
 abbrev Later : Board → Board → Type 0

@@ -1,3 +1,2 @@
 pub mod Grows
-pub mod Runs
 pub mod Way

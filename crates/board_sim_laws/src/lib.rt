@@ -2,7 +2,6 @@
 #![tactic(auto)]
 
 ghost use Rattle.board_sim_laws.specs.Grows.{ClosingAdds, RunAdds, SweepAdds, TurnAdds};
-ghost use Rattle.board_sim_laws.specs.Runs.{FirmwareRuns};
 ghost use Rattle.board_sim_laws.specs.Way.{WayLeads};
 
 /// A run only adds to its history: so does each of its steps, each sweep, closing, and what is left of a run.
@@ -11,12 +10,6 @@ pub fn history_grows()
     ensures sweep { SweepAdds }
     ensures closing { ClosingAdds }
     ensures run { RunAdds }
-{}
-
-/// The history of a schedule has the firmware's run in it: on the answers of its bus events the firmware asks exactly these events,
-/// prints what the schedule prints, and ends as the schedule says.
-pub fn firmware_runs()
-    ensures { FirmwareRuns }
 {}
 
 /// Where a run stands between two steps, its history and what it printed begin those of the whole run, and so they do after the next

@@ -12,7 +12,7 @@ use Rattle.board_sim.specs.Boards.{Board}
 use Rattle.board_sim.specs.Sweeps.{linked, answered, rested}
 use Rattle.board_sim.specs.Closes.{closed}
 use Rattle.board_sim.specs.Exchanges.{asked_of, answers_of}
-use Rattle.board_sim_laws.proofs.Kept.{IsKept, rest_keeps, closing_keeps}
+use Rattle.board_sim.proofs.BoardKept.{IsKept, rest_keeps, closing_keeps}
 
 -- What the firmware knows of a board stays.
 pub record Same (a b : Board) : Type 0 where

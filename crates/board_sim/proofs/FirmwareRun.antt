@@ -24,12 +24,12 @@ use Rattle.board_sim.specs.Exchanges.{asked_of, answers_of}
 use Rattle.board_sim.specs.Schedule.{Outcome, Turn, turn, turns, sched, finished, over_at, behind, stopped_by}
 use Rattle.board_sim.specs.declared.end.RunEnd.{RunEnd}
 use Rattle.board_sim.specs.declared.end.RunEnd.TheVariants as ends
-use Rattle.board_sim_laws.specs.Runs.{Ends, EndsBy, FirmwareRuns}
+use Rattle.board_sim.specs.FirmwareRuns.{Ends, EndsBy, FirmwareRuns}
 use Rattle.board_sim.proofs.Turns.{turn_by, first_turn, behind_behind}
 use Rattle.board_sim.proofs.Way.{played_all}
-use Rattle.board_sim_laws.proofs.Told.{told_of, IsDenied, played_came, played_denies}
-use Rattle.board_sim_laws.proofs.Quiet.{Same, rest_same, closing_same}
-use Rattle.board_sim_laws.proofs.Cut.{rest_full}
+use Rattle.board_sim.proofs.Told.{told_of, IsDenied, played_came, played_denies}
+use Rattle.board_sim.proofs.Quiet.{Same, rest_same, closing_same}
+use Rattle.board_sim.proofs.Cut.{rest_full}
 
 -- A step of the run.
 record Steps (cycles : ℕ) (start : McuState) (serial : List ℕ) (s : McuState) (b : Board) (t : Turn) : Type 0 where
