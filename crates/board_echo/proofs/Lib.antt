@@ -1,3 +1,4 @@
+pub mod Firmware
 pub mod Images
 pub mod Listings
 pub mod Sayings

@@ -1,5 +1,5 @@
 -- A firmware that gives the chip these events of the bus, and then ends.
-use Rattle.std.specs.Prelude.{ℕ, List, [], ◌∷◌, true, false, take, flat_map, length, Option, Some, None, nat_le, if◌then◌else◌}
+use Rattle.std.specs.Prelude.{ℕ, List, [], ◌∷◌, true, false, take, flat_map}
 use Rattle.board_bus.specs.declared.event.BusEvent.{BusEvent}
 use Rattle.board_bus.specs.declared.event.BusEvent.TheVariants.{Select, Byte, Look}
 use Rattle.board_echo.specs.Assembly.{Step, Line, line, cbi, sbi, ldi, rcall, break, steps_of, words_from, words_of}
@@ -12,11 +12,15 @@ event_steps (Select false) = sbi 0x05 2 ∷ []
 event_steps (Byte v) = ldi r24 v ∷ rcall "XFER" ∷ []
 event_steps Look = []
 
+-- What gives the chip events, in their order.
+abbrev pub steps_for : List BusEvent → List Step
+steps_for events = flat_map event_steps events
+
 -- It begins with the seven instructions with which the echo server begins: they set PB2, make outputs, and turn on SPI.
 unfoldable pub frames_lines : List BusEvent → List Line
 frames_lines events =
     line "" (take 7 (steps_of echo_lines)) ∷
-    line "" (flat_map event_steps events) ∷
+    line "" (steps_for events) ∷
     line "" (break ∷ []) ∷
     transfer
 
@@ -24,12 +28,6 @@ frames_lines events =
 unfoldable pub frames_words : List BusEvent → List ℕ
 frames_words events = words_of (frames_lines events)
 
--- For the code: the words of one event, by the place of the transfer; how many words events take, if they fit.
+-- For the code: the words of one event, by the place of the transfer.
 abbrev pub event_words : ℕ → ℕ → BusEvent → List ℕ
-event_words transfer at event = words_from (λ label. transfer) at (event_steps event)
-
-abbrev pub steps_for : List BusEvent → List Step
-steps_for events = flat_map event_steps events
-
-unfoldable pub events_fit : List BusEvent → Option ℕ
-events_fit events = if nat_le (length (steps_for events)) 2034 then Some (length (steps_for events)) else None
+event_words transfer_at at event = words_from (λ label. transfer_at) at (event_steps event)
