@@ -13,3 +13,6 @@ pub use frames::{FramesError, frames_image};
 pub use generator::echo_peer;
 pub use laws::echo_decodes;
 pub use words::echo_image;
+
+#[cfg(test)]
+mod tests;
