@@ -1,11 +1,11 @@
 -- The words of firmware that gives the chip events, part by part.
-use Rattle.std.proofs.Common.{◌≡◌, ℕ, suc, ◌+◌, ◌-◌, pos, negsuc, ◌-ℤ◌, List, [], ◌∷◌, ◌++◌, length, take, true, false, refl, sym, ap, ap₂, cond, lt-ltb, ◌∙◌, arith, append_assoc}
+use Rattle.std.proofs.Common.{◌≡◌, ℕ, suc, ◌+◌, ◌-◌, pos, negsuc, ◌-ℤ◌, List, [], ◌∷◌, ◌++◌, length, map, take, true, false, refl, sym, ap, ap₂, cond, lt-ltb, ◌∙◌, arith, append_assoc}
 use Rattle.std.specs.Prelude.{codes}
-use Rattle.std.proofs.lemmas.List.{length-append, append-nil}
+use Rattle.std.proofs.lemmas.List.{length-append, append-nil, map-append}
 use Rattle.avr_enc.specs.Shapes.{near}
 use Rattle.board_bus.specs.declared.event.BusEvent.{BusEvent}
 use Rattle.board_bus.specs.declared.event.BusEvent.TheVariants.{Select, Byte, Look}
-use Rattle.board_echo.specs.Assembly.{Step, place_of, instr_at, word, words_from, relative, steps_of, break}
+use Rattle.board_echo.specs.Assembly.{Step, place_of, instr_at, instrs_from, word, words_from, relative, steps_of, break}
 use Rattle.board_echo.specs.Echo.{echo_lines, transfer}
 use Rattle.board_echo.specs.Frames.{event_steps, event_words, steps_for, frames_lines, frames_words}
 use Rattle.board_echo.specs.declared.frames.TheConstants.{START, END}
@@ -26,11 +26,17 @@ words_length : (places : List ℕ → ℕ) (at : ℕ) (xs : List Step) → lengt
 words_length places at [] = refl
 words_length places at (x ∷ xs) = ap suc (words_length places (at + 1) xs)
 
-words_more : (places : List ℕ → ℕ) (at : ℕ) (xs ys : List Step) → words_from places at (xs ++ ys) ≡ words_from places at xs ++ words_from places (at + length xs) ys
-words_more places at [] ys = let e : at ≡ at + 0 = omega arith in ap (λ n. words_from places n ys) e
-words_more places at (x ∷ xs) ys =
+pub instrs_more : (places : List ℕ → ℕ) (at : ℕ) (xs ys : List Step)
+    → instrs_from places at (xs ++ ys) ≡ instrs_from places at xs ++ instrs_from places (at + length xs) ys
+instrs_more places at [] ys = let e : at ≡ at + 0 = omega arith in ap (λ n. instrs_from places n ys) e
+instrs_more places at (x ∷ xs) ys =
     let e : at + 1 + length xs ≡ at + suc (length xs) = omega arith in
-    ap (λ l. word (instr_at places at x) ∷ l) (words_more places (at + 1) xs ys ∙ ap (λ n. words_from places (at + 1) xs ++ words_from places n ys) e)
+    ap (λ l. instr_at places at x ∷ l) (instrs_more places (at + 1) xs ys ∙ ap (λ n. instrs_from places (at + 1) xs ++ instrs_from places n ys) e)
+
+pub words_more : (places : List ℕ → ℕ) (at : ℕ) (xs ys : List Step)
+    → words_from places at (xs ++ ys) ≡ words_from places at xs ++ words_from places (at + length xs) ys
+words_more places at xs ys =
+    ap (λ l. map word l) (instrs_more places at xs ys) ∙ map-append word (instrs_from places at xs) (instrs_from places (at + length xs) ys)
 
 -- the events
 
@@ -65,15 +71,15 @@ one_more done to e es =
 
 -- the whole
 
-transfer_place : (events : List BusEvent) → place_of (frames_lines events) (codes "XFER") ≡ 0 + 7 + length (steps_for events) + 1
+pub transfer_place : (events : List BusEvent) → place_of (frames_lines events) (codes "XFER") ≡ 0 + 7 + length (steps_for events) + 1
 unfolding frames_lines echo_lines
 transfer_place events = refl
 
-wait_place : (events : List BusEvent) → place_of (frames_lines events) (codes "XW") ≡ 0 + 7 + length (steps_for events) + 1 + 1
+pub wait_place : (events : List BusEvent) → place_of (frames_lines events) (codes "XW") ≡ 0 + 7 + length (steps_for events) + 1 + 1
 unfolding frames_lines echo_lines
 wait_place events = refl
 
-steps_are : (events : List BusEvent) → steps_of (frames_lines events) ≡ take 7 (steps_of echo_lines) ++ (steps_for events ++ break ∷ steps_of transfer)
+pub steps_are : (events : List BusEvent) → steps_of (frames_lines events) ≡ take 7 (steps_of echo_lines) ++ (steps_for events ++ break ∷ steps_of transfer)
 unfolding frames_lines echo_lines
 steps_are events = refl
 
@@ -81,18 +87,18 @@ start_is : (places : List ℕ → ℕ) → words_from places 0 (take 7 (steps_of
 unfolding echo_lines
 start_is places = refl
 
-start_length : length (take 7 (steps_of echo_lines)) ≡ 7
+pub start_length : length (take 7 (steps_of echo_lines)) ≡ 7
 unfolding echo_lines
 start_length = refl
 
 five_on : (at : ℕ) → at + 1 + 1 + 1 + 1 + 1 ≡ at + 2 + 3
 five_on at = omega arith
 
+pub back_to_wait : (places : List ℕ → ℕ) (at : ℕ) → places (codes "XW") ≡ at + 2 → relative (places (codes "XW")) (at + 1 + 1 + 1 + 1) ≡ negsuc 2
+back_to_wait places at is = ap₂ (λ m n. pos m -ℤ pos n) is (five_on at) ∙ behind (at + 2)
+
 end_is : (places : List ℕ → ℕ) (at : ℕ) → places (codes "XW") ≡ at + 2 → words_from places at (break ∷ steps_of transfer) ≡ END
-end_is places at is =
-    let back : relative (places (codes "XW")) (at + 1 + 1 + 1 + 1) ≡ negsuc 2 =
-    ap₂ (λ m n. pos m -ℤ pos n) is (five_on at) ∙ behind (at + 2) in
-    ap (λ k. 0x9598 ∷ 0xBD8E ∷ 0xB40D ∷ 0xFE07 ∷ near 0xC000 k ∷ 0xB58E ∷ 0x9508 ∷ []) back
+end_is places at is = ap (λ k. 0x9598 ∷ 0xBD8E ∷ 0xB40D ∷ 0xFE07 ∷ near 0xC000 k ∷ 0xB58E ∷ 0x9508 ∷ []) (back_to_wait places at is)
 
 pub firmware_is : (events : List BusEvent) (many : ℕ) → many ≡ length (steps_for events)
     → (START ++ events_left (many + 8) 7 events) ++ END ≡ frames_words events

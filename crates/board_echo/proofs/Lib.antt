@@ -1,3 +1,4 @@
+pub mod Decodes
 pub mod Firmware
 pub mod Images
 pub mod Listings

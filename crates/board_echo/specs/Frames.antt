@@ -1,8 +1,8 @@
 -- A firmware that gives the chip these events of the bus, and then ends.
-use Rattle.std.specs.Prelude.{ℕ, List, [], ◌∷◌, true, false, take, flat_map}
+use Rattle.std.specs.Prelude.{ℕ, ◌<◌, ◌≤◌, List, length, [], ◌∷◌, true, false, take, flat_map}
 use Rattle.board_bus.specs.declared.event.BusEvent.{BusEvent}
 use Rattle.board_bus.specs.declared.event.BusEvent.TheVariants.{Select, Byte, Look}
-use Rattle.board_echo.specs.Assembly.{Step, Line, line, cbi, sbi, ldi, rcall, break, steps_of, words_from, words_of}
+use Rattle.board_echo.specs.Assembly.{Step, Line, line, cbi, sbi, ldi, rcall, break, steps_of, words_from, words_of, AreDecoded}
 use Rattle.board_echo.specs.Echo.{r24, transfer, echo_lines}
 
 -- What gives the chip one event. The select line is PB2; a look gives it nothing.
@@ -27,6 +27,21 @@ frames_lines events =
 -- Its words.
 unfoldable pub frames_words : List BusEvent → List ℕ
 frames_words events = words_of (frames_lines events)
+
+-- The bytes of events are bytes.
+abbrev pub IsByte : BusEvent → Type 0
+IsByte (Select low) = Unit {0}
+IsByte (Byte v) = v < 256
+IsByte Look = Unit {0}
+
+abbrev pub AreBytes : List BusEvent → Type 0
+AreBytes [] = Unit {0}
+AreBytes (e ∷ es) = IsByte e × AreBytes es
+
+-- The words are decoded to the lines, unless they are too many.
+abbrev pub FramesAreDecoded : Type 0
+FramesAreDecoded =
+    (events : List BusEvent) → AreBytes events → length (frames_words events) ≤ 2048 → AreDecoded (frames_words events) (frames_lines events)
 
 -- For the code: the words of one event, by the place of the transfer.
 abbrev pub event_words : ℕ → ℕ → BusEvent → List ℕ

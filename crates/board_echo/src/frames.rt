@@ -5,7 +5,7 @@ ghost use Rattle.avr_table.specs.declared.instr.Moves.TheVariants.{Ldi};
 ghost use Rattle.avr_table.specs.declared.instr.Jumps.TheVariants.{Rcall};
 ghost use Rattle.board_echo.specs.Assembly.{image_of, relative, word};
 ghost use Rattle.board_echo.specs.Frames.{event_steps, event_words, frames_words, steps_for};
-ghost use Rattle.board_echo.specs.declared.frames.FramesError.TheVariants.{TooLong, NoMemory};
+ghost use Rattle.board_echo.specs.declared.frames.FramesError.TheVariants.{TooLong};
 
 use crate::words::image_of;
 use board_bus::BusEvent;
