@@ -1,11 +1,11 @@
 pub mod Each
 mod Faults
 mod Others
-mod Parts
+pub mod Parts
 mod Readings
 mod Replays
 mod Together
 mod ToldLine
 mod ToldLines
-mod Weights
+pub mod Weights
 pub mod ToldLaws

@@ -28,7 +28,7 @@ cut_some p xs i found =
     (at.0, rw is at (slice_split_first p xs 0 (rw is at.0)))
 
 -- a part that ended with a line feed
-lines_first : (part : List ℕ) (parts : List (List ℕ)) → 1 ≤ length parts → lines_of_parts (part ∷ parts) ≡ strip_carriage_return part ∷ lines_of_parts parts
+pub lines_first : (part : List ℕ) (parts : List (List ℕ)) → 1 ≤ length parts → lines_of_parts (part ∷ parts) ≡ strip_carriage_return part ∷ lines_of_parts parts
 lines_first part [] some = absurd (omega (arith, some))
 lines_first part (next ∷ more) some = refl
 

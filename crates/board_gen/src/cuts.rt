@@ -1,4 +1,4 @@
-// Texts cut into lines and tokens, one after another, without memory.
+//! Texts cut into lines and tokens, one after another, without memory.
 ghost use Rattle.std.specs.Prelude.{◌≡◌, ◌==◌, ◌<◌, ◌≤◌, ◌+◌, ◌∷◌, [], length, IfSome, MatchOption};
 ghost use Rattle.std.specs.List.{slice_split, position};
 ghost use Rattle.std.specs.Str.Lines.{strip_carriage_return};
@@ -12,8 +12,8 @@ fn place_of(text: &[u8], byte: u8) -> Option<usize>
     text.iter().position(|b| *b == byte)
 }
 
-// A text up to the first place of a byte, and what stands behind that place; `None` where the byte is not in it.
-fn cut(text: &[u8], byte: u8) -> Option<(&[u8], &[u8])>
+/// A text up to the first place of a byte, and what stands behind that place; `None` where the byte is not in it.
+pub fn cut(text: &[u8], byte: u8) -> Option<(&[u8], &[u8])>
     ensures parts { MatchOption result (slice_split (λ b. b == byte) text.now ≡ text.now ∷ []) (λ p. slice_split (λ b. b == byte) text.now ≡ p.0.now ∷ slice_split (λ b. b == byte) p.1.now) }
     ensures sizes { IfSome result (λ p. length p.0.now + 1 + length p.1.now ≡ length text.now) }
 {
@@ -34,8 +34,8 @@ fn uncommented(part: &[u8]) -> &[u8]
     }
 }
 
-// A line without the carriage return at its end, if it has one.
-fn without_return(line: &[u8]) -> &[u8]
+/// A line without the carriage return at its end, if it has one.
+pub fn without_return(line: &[u8]) -> &[u8]
     ensures is { result.now ≡ strip_carriage_return line.now }
     ensures shorter { length result.now ≤ length line.now }
 {

@@ -6,13 +6,13 @@
 #![tactic(auto)]
 
 mod check;
-mod cuts;
+pub mod cuts;
 pub mod end;
 pub mod fault;
 mod head;
 pub mod laws;
 mod line;
-mod links;
+pub mod links;
 mod run;
 pub mod scripts;
 pub mod session;

@@ -1,4 +1,4 @@
-// Link tokens: `@n:` and what the link of socket n did.
+//! Link tokens: `@n:` and what the link of socket n did.
 ghost use Rattle.std.specs.Prelude.{◌≡◌, ◌<◌, IfOk, IfSome, option_map};
 ghost use Rattle.std.specs.Str.{bytes_eq};
 ghost use Rattle.board_gen.specs.Links.{bare, counted, peer, accepted, datagram, what, socket, link_parts, link};

@@ -1,0 +1,4 @@
+pub mod Assembly
+pub mod Echo
+pub mod Frames
+pub mod Generator

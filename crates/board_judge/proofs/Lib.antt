@@ -1,0 +1,7 @@
+pub mod Verdicts
+pub mod FirstLine
+mod Others
+mod Readings
+pub mod Wrongs
+mod Stepping
+mod Weights

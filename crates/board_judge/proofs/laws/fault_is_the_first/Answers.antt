@@ -1,0 +1,5 @@
+use Rattle.board_judge.proofs.Readings.{first_fault}
+use Rattle.board_judge.proofs.laws.fault_is_the_first.Goals as goal
+
+pub returns : goal.returns
+returns c = first_fault

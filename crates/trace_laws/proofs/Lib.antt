@@ -1,0 +1,7 @@
+mod Passing
+mod Decimals
+mod Digits
+mod Links
+mod Entries
+mod Lines
+mod Traces
