@@ -1,3 +1,4 @@
 mod Causes
+mod Scheduled
 mod Reported
 mod Shown

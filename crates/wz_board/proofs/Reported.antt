@@ -1,6 +1,17 @@
 -- What follows of what the words come to.
-use Rattle.std.proofs.Common.{◌≡◌, ◌≢◌, ℕ, List, Option, None, Some, Result, Ok, Err, MatchResult, refl, sym, ap, ◌∙◌, subst}
+use Rattle.std.proofs.Common.{◌≡◌, ◌≢◌, ℕ, true, List, Option, None, Some, IfSome, Result, Ok, Err, MatchResult, refl, sym, ap, ◌∙◌, subst}
+use Rattle.std.specs.Option.{IsSome}
 use Rattle.chip_sheet.specs.Past.{Past}
+use Rattle.chip_sheet.specs.Legal.{Legal}
+use Rattle.chip_sheet.specs.Streams.{Starts}
+use Rattle.chip_shared.specs.Tied.{Tied}
+use Rattle.link_script.specs.Links.{played_of}
+use Rattle.link_script.specs.Play.{shown}
+use Rattle.link_script.specs.declared.script_links.ScriptLinks.{ScriptLinks}
+use Rattle.board_sim.specs.Schedule as schedule
+use Rattle.board_sim.specs.Ends.{starts_of}
+use Rattle.board_sim.specs.declared.end.RunEnd.{RunEnd}
+use Rattle.board_sim.specs.declared.end.RunEnd.TheVariants as runs
 use Rattle.wz_base.specs.Outside.{Rose, RisesOnly}
 use Rattle.wz_base.specs.declared.reading.ReadError.{ReadError}
 use Rattle.wz_base.specs.declared.reading.ReadError.TheVariants as errors
@@ -10,11 +21,11 @@ use Rattle.board_file.specs.declared.fault.BoardFault.{BoardFault}
 use Rattle.board_file.specs.Boards.{Setup, board_of}
 use Rattle.board_gen.specs.declared.end.ScriptStop.{ScriptStop}
 use Rattle.board_gen.specs.declared.end.ScriptStop.TheVariants as stops
-use Rattle.board_gen.specs.Shown.{shown}
+use Rattle.board_gen.specs.Shown.{shown as shown_script}
 use Rattle.wz_board.specs.declared.end.Refusal.{Refusal}
 use Rattle.wz_board.specs.declared.end.Refusal.TheVariants as refusals
 use Rattle.wz_board.specs.declared.end.EndKind.{EndKind}
-use Rattle.wz_board.specs.declared.end.EndKind.TheVariants.{Done, Chip, WriteFault, NoMemory, Refused}
+use Rattle.wz_board.specs.declared.end.EndKind.TheVariants.{Done, Break, Sleep, CycleLimit, Avr, TraceFull, PollFault, WriteFault, NoMemory, Refused}
 use Rattle.wz_board.specs.declared.end.QuickEnd.{QuickEnd}
 use Rattle.wz_board.specs.declared.words.TextCommand.{TextCommand}
 use Rattle.wz_board.specs.declared.words.TextCommand.TheVariants as texts
@@ -23,22 +34,18 @@ use Rattle.wz_board.specs.declared.words.BoardCommand.TheVariants as boards
 use Rattle.wz_board.specs.Checked.{beside, judged, judged_image, with_board}
 use Rattle.wz_board.specs.Reads.{Counts, Reading, WasRead}
 use Rattle.wz_board.specs.Words.{Asked, OnText, OnBoard, Help}
-use Rattle.wz_board.specs.Outcome.{Outcome, end_of, listed_outcome, on_reading, text_outcome, unread, IsLegal, Ran, RanBoard, RanBoth, RanJudged, Reports, Shows}
+use Rattle.wz_board.specs.Outcome.{Outcome, end_of, listed_outcome, on_reading, text_outcome, unread, asks_run, IsLegal, Ran, RanBoard, RanBoth, RanJudged, Reports, Shows}
+use Rattle.wz_board.specs.Runs.{end_of_run, IsOfRun, IsTied, KeepsRun, ShowsRun}
 use Rattle.wz_board.proofs.Causes.{rose_since}
+use Rattle.wz_board.proofs.Scheduled.{no_poll, run_end}
 
 -- an end that the texts of the operands give
 abbrev IsOfTexts : EndKind → Type 0
-IsOfTexts Done = Unit {0}
-IsOfTexts (Chip s) = Unit {0}
-IsOfTexts WriteFault = Unit {0}
-IsOfTexts NoMemory = Unit {0}
 IsOfTexts (Refused refusals.Usage) = ⊥
 IsOfTexts (Refused (refusals.NoFile operand)) = ⊥
 IsOfTexts (Refused (refusals.ReadFault operand)) = ⊥
 IsOfTexts (Refused (refusals.TooLong operand)) = ⊥
-IsOfTexts (Refused (refusals.Hex fault)) = Unit {0}
-IsOfTexts (Refused (refusals.Board fault)) = Unit {0}
-IsOfTexts (Refused (refusals.Script fault)) = Unit {0}
+IsOfTexts end = Unit {0}
 
 script_ends : (end : ScriptStop) → IsOfTexts (end_of end)
 script_ends stops.Done = tt
@@ -52,32 +59,39 @@ list_ends text None = tt
 list_ends text (Some fault) = tt
 
 text_ends : (what : TextCommand) (text : List ℕ) → IsOfTexts (text_outcome what text).end
-text_ends texts.Bus text = script_ends (shown text).end
+text_ends texts.Bus text = script_ends (shown_script text).end
 text_ends texts.List text = list_ends text (fault_in text)
 
 -- a refusal is that of the outcome
 outcome_ends : (o : Outcome) (end : EndKind) (past : Past) (old new : Option (List ℕ)) (refusal : Refusal) → Shows o end past old new → end ≡ Refused refusal → o.end ≡ Refused refusal
-outcome_ends o Done past old new refusal it is = cc
-outcome_ends o (Chip s) past old new refusal it is = cc
 outcome_ends o WriteFault past old new refusal it is = cc
 outcome_ends o NoMemory past old new refusal it is = cc
-outcome_ends o (Refused r) past old new refusal it is = sym it.0 ∙ is
+outcome_ends o end past old new refusal it is = sym it.0 ∙ is
 
 -- a command that ends as its outcome, by this refusal
 ran_ends : (o : Outcome) (r : QuickEnd) (old new : Option (List ℕ)) (faults faults' : ℕ) (refusal : Refusal) → Ran o r old new faults faults' → r.end ≡ Refused refusal → o.end ≡ Refused refusal
 ran_ends o r old new faults faults' refusal ran is = outcome_ends o r.end r.history.past old new refusal ran.shows is
 
 shows_of_texts : (o : Outcome) (end : EndKind) (past : Past) (old new : Option (List ℕ)) → IsOfTexts o.end → Shows o end past old new → IsOfTexts end
-shows_of_texts o Done past old new of_texts it = tt
-shows_of_texts o (Chip s) past old new of_texts it = tt
 shows_of_texts o WriteFault past old new of_texts it = tt
 shows_of_texts o NoMemory past old new of_texts it = tt
-shows_of_texts o (Refused r) past old new of_texts it = subst IsOfTexts (sym it.0) of_texts
+shows_of_texts o end past old new of_texts it = subst IsOfTexts (sym it.0) of_texts
 
 ran_of_texts : (o : Outcome) (r : QuickEnd) (old new : Option (List ℕ)) (faults faults' : ℕ) → IsOfTexts o.end → Ran o r old new faults faults' → IsOfTexts r.end
 ran_of_texts o r old new faults faults' of_texts ran = shows_of_texts o r.end r.history.past old new of_texts ran.shows
 
+run_ends : (e : RunEnd) → IsOfTexts (end_of_run e)
+run_ends runs.Break = tt
+run_ends e = tt
+
+run_of_texts : (cut : Type 0) (o : schedule.Outcome) (text : List ℕ) (end : EndKind) (past : Past) (script : Option ScriptLinks) (old new : Option (List ℕ)) → ShowsRun cut o text end past script old new → IsOfTexts end
+run_of_texts cut o text end past script old new it =
+    let of = run_end cut o text end past script old new it in
+    subst IsOfTexts (sym of.1) (run_ends of.0)
+
 both_ends : (what : BoardCommand) (image : List ℕ) (setup : Setup) (r : QuickEnd) (old new : Option (List ℕ)) (faults faults' : ℕ) → RanBoth what image setup r old new faults faults' → IsOfTexts r.end
+both_ends boards.Sim image setup r old new faults faults' ran = run_of_texts _ _ _ r.end _ _ old new ran.shows
+both_ends boards.Trace image setup r old new faults faults' ran = run_of_texts _ _ _ r.end _ _ old new ran.shows
 both_ends boards.Check image setup r old new faults faults' ran = ran_of_texts _ r old new faults faults' tt ran
 
 beside_ends : (what : BoardCommand) (image : List ℕ) (setup : Result Setup BoardFault) (r : QuickEnd) (old new : Option (List ℕ)) (faults faults' : ℕ)
@@ -181,45 +195,115 @@ reports_usage files before after (Some (OnText what name)) r old new faults faul
 reports_usage files before after (Some (OnBoard what image board)) r old new faults faults' it is =
     absurd (no_usage_board what it.first it.second r old new faults faults' it.ran is)
 
-ran_legal : (o : Outcome) (r : QuickEnd) (old new : Option (List ℕ)) (faults faults' : ℕ) → Ran o r old new faults faults' → IsLegal r.history.past
-ran_legal o r old new faults faults' ran = record { starts = o.starts; legal = ran.legal }
+-- what follows of what a command leaves
+pub record Follows (form : Option Asked) (r : QuickEnd) (faults faults' : ℕ) : Type 0 where
+  pub legal : IsLegal r.history.past
+  pub scripted : IfSome r.script (λ links. asks_run form ≡ true)
+  pub tied : IfSome r.script (λ links. IsTied r.history.past links)
+  pub made : IsOfRun r.end → IsSome r.script
+  pub no_poll_fault : r.end ≢ PollFault
+  pub written : RisesOnly (r.end ≡ WriteFault) faults faults'
 
-legal_both : (what : BoardCommand) (image : List ℕ) (setup : Setup) (r : QuickEnd) (old new : Option (List ℕ)) (faults faults' : ℕ) → RanBoth what image setup r old new faults faults' → IsLegal r.history.past
-legal_both boards.Check image setup r old new faults faults' ran = ran_legal _ r old new faults faults' ran
+-- an end that is none of a run's own
+abbrev IsPlain : EndKind → Type 0
+IsPlain PollFault = ⊥
+IsPlain Break = ⊥
+IsPlain Sleep = ⊥
+IsPlain CycleLimit = ⊥
+IsPlain (Avr s) = ⊥
+IsPlain TraceFull = ⊥
+IsPlain end = Unit {0}
 
-legal_judged : (what : BoardCommand) (judged : Result (List ℕ × Setup) Refusal) (r : QuickEnd) (old new : Option (List ℕ)) (faults faults' : ℕ) → RanJudged what judged r old new faults faults' → IsLegal r.history.past
-legal_judged what (Ok both) r old new faults faults' ran = legal_both what both.0 both.1 r old new faults faults' ran
-legal_judged what (Err refusal) r old new faults faults' ran = ran_legal _ r old new faults faults' ran
+plain_no_run : (end : EndKind) → IsPlain end → IsOfRun end → ⊥
+plain_no_run Break plain of = plain
+plain_no_run Sleep plain of = plain
+plain_no_run CycleLimit plain of = plain
+plain_no_run (Avr s) plain of = plain
+plain_no_run TraceFull plain of = plain
+plain_no_run end plain of = of
 
-legal_board : (what : BoardCommand) (first second : Reading) (r : QuickEnd) (old new : Option (List ℕ)) (faults faults' : ℕ) → RanBoard what first second r old new faults faults' → IsLegal r.history.past
-legal_board what (Err e) second r old new faults faults' ran = ran_legal _ r old new faults faults' ran
-legal_board what (Ok image) (Err e) r old new faults faults' ran = ran_legal _ r old new faults faults' ran
-legal_board what (Ok image) (Ok board) r old new faults faults' ran = legal_judged what (judged image board) r old new faults faults' ran
+shows_plain : (o : Outcome) (end : EndKind) (past : Past) (old new : Option (List ℕ)) → IsPlain o.end → Shows o end past old new → IsPlain end
+shows_plain o WriteFault past old new plain it = tt
+shows_plain o NoMemory past old new plain it = tt
+shows_plain o end past old new plain it = subst IsPlain (sym it.0) plain
 
--- the chip allows what happened
-pub reports_legal : (files : Option (List ℕ → Option (List ℕ))) (before after : Counts) (form : Option Asked) (r : QuickEnd) (old new : Option (List ℕ)) (faults faults' : ℕ)
-    → Reports files before after form r old new faults faults' → IsLegal r.history.past
-reports_legal files before after None r old new faults faults' it = ran_legal _ r old new faults faults' it.ran
-reports_legal files before after (Some Help) r old new faults faults' it = ran_legal _ r old new faults faults' it.ran
-reports_legal files before after (Some (OnText what name)) r old new faults faults' it = ran_legal _ r old new faults faults' it.ran
-reports_legal files before after (Some (OnBoard what image board)) r old new faults faults' it = legal_board what it.first it.second r old new faults faults' it.ran
+no_script : (P : ScriptLinks → Type 0) (script : Option ScriptLinks) → script ≡ None → IfSome script P
+no_script P None is = tt
+no_script P (Some links) is = cc
 
-written_both : (what : BoardCommand) (image : List ℕ) (setup : Setup) (r : QuickEnd) (old new : Option (List ℕ)) (faults faults' : ℕ) → RanBoth what image setup r old new faults faults' → RisesOnly (r.end ≡ WriteFault) faults faults'
-written_both boards.Check image setup r old new faults faults' ran = ran.causes
+ran_follows : (form : Option Asked) (o : Outcome) (r : QuickEnd) (old new : Option (List ℕ)) (faults faults' : ℕ) → IsPlain o.end → Ran o r old new faults faults' → Follows form r faults faults'
+ran_follows form o r old new faults faults' plain ran =
+    let left = shows_plain o r.end r.history.past old new plain ran.shows in
+    record {
+      legal = record { starts = o.starts; legal = ran.legal };
+      scripted = no_script _ r.script ran.script;
+      tied = no_script _ r.script ran.script;
+      made = λ of. absurd (plain_no_run r.end left of);
+      no_poll_fault = λ is. subst IsPlain is left;
+      written = ran.causes;
+    }
 
-written_judged : (what : BoardCommand) (judged : Result (List ℕ × Setup) Refusal) (r : QuickEnd) (old new : Option (List ℕ)) (faults faults' : ℕ) → RanJudged what judged r old new faults faults' → RisesOnly (r.end ≡ WriteFault) faults faults'
-written_judged what (Ok both) r old new faults faults' ran = written_both what both.0 both.1 r old new faults faults' ran
-written_judged what (Err refusal) r old new faults faults' ran = ran.causes
+all_scripted : (form : Option Asked) (script : Option ScriptLinks) → asks_run form ≡ true → IfSome script (λ links. asks_run form ≡ true)
+all_scripted form None is = tt
+all_scripted form (Some links) is = is
 
-written_board : (what : BoardCommand) (first second : Reading) (r : QuickEnd) (old new : Option (List ℕ)) (faults faults' : ℕ) → RanBoard what first second r old new faults faults' → RisesOnly (r.end ≡ WriteFault) faults faults'
-written_board what (Err e) second r old new faults faults' ran = ran.causes
-written_board what (Ok image) (Err e) r old new faults faults' ran = ran.causes
-written_board what (Ok image) (Ok board) r old new faults faults' ran = written_judged what (judged image board) r old new faults faults' ran
+tied_by : (starts : Starts) (past : Past) (script : Option ScriptLinks) → Legal starts past → IfSome script (λ links. Tied starts past (shown (played_of links))) → IfSome script (λ links. IsTied past links)
+tied_by starts past None legal it = tt
+tied_by starts past (Some links) legal it = record { starts = starts; legal = legal; tied = it }
 
--- the sink failed exactly where its count rose
-pub reports_written : (files : Option (List ℕ → Option (List ℕ))) (before after : Counts) (form : Option Asked) (r : QuickEnd) (old new : Option (List ℕ)) (faults faults' : ℕ)
-    → Reports files before after form r old new faults faults' → RisesOnly (r.end ≡ WriteFault) faults faults'
-reports_written files before after None r old new faults faults' it = it.ran.causes
-reports_written files before after (Some Help) r old new faults faults' it = it.ran.causes
-reports_written files before after (Some (OnText what name)) r old new faults faults' it = it.ran.causes
-reports_written files before after (Some (OnBoard what image board)) r old new faults faults' it = written_board what it.first it.second r old new faults faults' it.ran
+made_by : (end : EndKind) (script : Option ScriptLinks) → (script ≡ None → end ≡ NoMemory) → IsOfRun end → IsSome script
+made_by end None made of = absurd (subst IsOfRun (made refl) of)
+made_by end (Some links) made of = refl
+
+keeps_follows : (form : Option Asked) (setup : Setup) (r : QuickEnd) (faults faults' : ℕ) → asks_run form ≡ true → r.end ≢ PollFault → KeepsRun setup r faults faults' → Follows form r faults faults'
+keeps_follows form setup r faults faults' asks no_poll_fault it = record {
+  legal = record { starts = starts_of setup; legal = it.legal };
+  scripted = all_scripted form r.script asks;
+  tied = tied_by (starts_of setup) r.history.past r.script it.legal it.tied;
+  made = made_by r.end r.script it.made;
+  no_poll_fault = no_poll_fault;
+  written = it.causes;
+}
+
+both_follows : (what : BoardCommand) (one two : List ℕ) (image : List ℕ) (setup : Setup) (r : QuickEnd) (old new : Option (List ℕ)) (faults faults' : ℕ) → RanBoth what image setup r old new faults faults'
+    → Follows (Some (OnBoard what one two)) r faults faults'
+both_follows boards.Sim one two image setup r old new faults faults' ran =
+    keeps_follows _ setup r faults faults' refl (no_poll _ image setup _ r.end _ _ old new ran.firmware ran.shows) ran.keeps
+both_follows boards.Trace one two image setup r old new faults faults' ran =
+    keeps_follows _ setup r faults faults' refl (no_poll _ image setup _ r.end _ _ old new ran.firmware ran.shows) ran.keeps
+both_follows boards.Check one two image setup r old new faults faults' ran = ran_follows _ _ r old new faults faults' tt ran
+
+judged_follows : (what : BoardCommand) (one two : List ℕ) (judged : Result (List ℕ × Setup) Refusal) (r : QuickEnd) (old new : Option (List ℕ)) (faults faults' : ℕ) → RanJudged what judged r old new faults faults'
+    → Follows (Some (OnBoard what one two)) r faults faults'
+judged_follows what one two (Ok both) r old new faults faults' ran = both_follows what one two both.0 both.1 r old new faults faults' ran
+judged_follows what one two (Err refusal) r old new faults faults' ran = ran_follows _ _ r old new faults faults' tt ran
+
+unread_plain : (operand : ℕ) (e : ReadError) → IsPlain (unread operand e).end
+unread_plain operand errors.NoFile = tt
+unread_plain operand e = tt
+
+board_follows : (what : BoardCommand) (one two : List ℕ) (first second : Reading) (r : QuickEnd) (old new : Option (List ℕ)) (faults faults' : ℕ) → RanBoard what first second r old new faults faults'
+    → Follows (Some (OnBoard what one two)) r faults faults'
+board_follows what one two (Err e) second r old new faults faults' ran = ran_follows _ _ r old new faults faults' (unread_plain 1 e) ran
+board_follows what one two (Ok image) (Err e) r old new faults faults' ran = ran_follows _ _ r old new faults faults' (unread_plain 2 e) ran
+board_follows what one two (Ok image) (Ok board) r old new faults faults' ran = judged_follows what one two (judged image board) r old new faults faults' ran
+
+script_plain : (end : ScriptStop) → IsPlain (end_of end)
+script_plain stops.Done = tt
+script_plain end = tt
+
+listed_plain : (text : List ℕ) (fault : Option HexFault) → IsPlain (listed_outcome (judged_image text fault)).end
+listed_plain text None = tt
+listed_plain text (Some fault) = tt
+
+reading_plain : (what : TextCommand) (reading : Reading) → IsPlain (on_reading what reading).end
+reading_plain what (Err e) = unread_plain 1 e
+reading_plain texts.Bus (Ok text) = script_plain (shown_script text).end
+reading_plain texts.List (Ok text) = listed_plain text (fault_in text)
+
+pub reports_follows : (files : Option (List ℕ → Option (List ℕ))) (before after : Counts) (form : Option Asked) (r : QuickEnd) (old new : Option (List ℕ)) (faults faults' : ℕ)
+    → Reports files before after form r old new faults faults' → Follows form r faults faults'
+reports_follows files before after None r old new faults faults' it = ran_follows _ _ r old new faults faults' tt it.ran
+reports_follows files before after (Some Help) r old new faults faults' it = ran_follows _ _ r old new faults faults' tt it.ran
+reports_follows files before after (Some (OnText what name)) r old new faults faults' it = ran_follows _ _ r old new faults faults' (reading_plain what it.reading) it.ran
+reports_follows files before after (Some (OnBoard what image board)) r old new faults faults' it = board_follows what image board it.first it.second r old new faults faults' it.ran

@@ -13,11 +13,13 @@ use Rattle.ihex.specs.declared.fault.HexKind.TheVariants.{AfterEnd, BadStart, Ba
 use Rattle.wz_board.specs.declared.end.Refusal.{Refusal}
 use Rattle.wz_board.specs.declared.end.Refusal.TheVariants.{Usage, NoFile, ReadFault, TooLong, Hex, Board, Script}
 use Rattle.wz_board.specs.declared.end.EndKind.{EndKind}
-use Rattle.wz_board.specs.declared.end.EndKind.TheVariants.{Done, Chip, WriteFault, NoMemory, Refused}
+use Rattle.wz_board.specs.declared.end.EndKind.TheVariants.{Done, Break, Sleep, CycleLimit, Chip, Avr, TraceFull, PollFault, WriteFault, NoMemory, Refused}
 
 -- The exit status of an end.
 abbrev pub status_of : EndKind → ℕ
 status_of Done = 0
+status_of Break = 0
+status_of Sleep = 0
 status_of (Refused Usage) = 2
 status_of (Refused (Hex fault)) = 3
 status_of (Refused (Board fault)) = 4
@@ -25,9 +27,13 @@ status_of (Refused (NoFile operand)) = 5
 status_of (Refused (ReadFault operand)) = 5
 status_of WriteFault = 6
 status_of NoMemory = 7
+status_of TraceFull = 8
+status_of PollFault = 9
+status_of CycleLimit = 10
 status_of (Refused (TooLong operand)) = 11
 status_of (Refused (Script fault)) = 14
 status_of (Chip s) = 20
+status_of (Avr s) = 20
 
 -- The name of a kind of fault.
 abbrev pub kind_text : HexKind → List ℕ

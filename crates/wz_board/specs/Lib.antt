@@ -2,4 +2,5 @@ pub mod Words
 pub mod Ends
 pub mod Checked
 pub mod Reads
+pub mod Runs
 pub mod Outcome

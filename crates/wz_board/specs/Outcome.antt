@@ -1,5 +1,5 @@
 -- What a command comes to.
-use Rattle.std.specs.Prelude.{◌≡◌, ℕ, List, [], ◌++◌, Option, None, Some, Result, Ok, Err, MatchResult}
+use Rattle.std.specs.Prelude.{◌≡◌, ℕ, Bool, true, false, List, [], ◌++◌, Option, None, Some, Result, Ok, Err, MatchResult}
 use Rattle.chip_sheet.specs.Past.{Past, GoesOn}
 use Rattle.chip_sheet.specs.Legal.{Legal}
 use Rattle.chip_sheet.specs.Streams.{Starts}
@@ -20,6 +20,7 @@ use Rattle.wz_board.specs.Ends.{fault_text}
 use Rattle.board_list.specs.Listing.{listing}
 use Rattle.wz_board.specs.Checked.{check_text, judged, judged_image}
 use Rattle.wz_board.specs.Reads.{Counts, Reading, WasRead}
+use Rattle.wz_board.specs.Runs.{RanSim, RanTrace}
 use Rattle.wz_board.specs.Words.{Asked, OnText, OnBoard, Help, forms}
 use Rattle.ihex.specs.Text.{fault_in}
 use Rattle.board_file.specs.Boards.{Setup}
@@ -97,24 +98,27 @@ IsWhole o end past old new = (end ≡ o.end) × (past ≡ o.past) × Appends old
 abbrev pub Shows : Outcome → EndKind → Past → Option (List ℕ) → Option (List ℕ) → Type 0
 Shows o WriteFault past old new = IsCut o past old new
 Shows o NoMemory past old new = IsCut o past old new
-Shows o Done past old new = IsWhole o Done past old new
-Shows o (Chip s) past old new = IsWhole o (Chip s) past old new
-Shows o (Refused r) past old new = IsWhole o (Refused r) past old new
+Shows o end past old new = IsWhole o end past old new
 
 -- What is given of the line of a refusal.
 abbrev pub AddsLine : Refusal → EndKind → Option (List ℕ) → Option (List ℕ) → Type 0
 AddsLine refusal WriteFault old new = AppendsFront old (fault_text refusal) new
 AddsLine refusal NoMemory old new = new ≡ old
-AddsLine refusal Done old new = ⊥
-AddsLine refusal (Chip s) old new = ⊥
 AddsLine refusal (Refused r) old new = (r ≡ refusal) × Appends old (fault_text refusal) new
+AddsLine refusal end old new = ⊥
 
 -- The chip allows the history, where its pointers start somewhere.
 pub record IsLegal (past : Past) : Type 0 where
   pub starts : Starts
   pub legal : Legal starts past
 
--- What a command leaves, over a sink that had this text and this count of faults before and after: the outcome's end, history and text; a
+-- The words ask for a scripted run.
+abbrev pub asks_run : Option Asked → Bool
+asks_run (Some (OnBoard boards.Sim image board)) = true
+asks_run (Some (OnBoard boards.Trace image board)) = true
+asks_run form = false
+
+-- What a command without a run leaves, over a sink that had this text and this count of faults before and after: the outcome's end, history and text; a
 -- history that the chip allows; no scripted peers; and a write fault exactly where the count rose.
 pub record Ran (o : Outcome) (r : QuickEnd) (old new : Option (List ℕ)) (before after : ℕ) : Type 0 where
   pub shows : Shows o r.end r.history.past old new
@@ -124,6 +128,8 @@ pub record Ran (o : Outcome) (r : QuickEnd) (old new : Option (List ℕ)) (befor
 
 -- What a command on an image and a board leaves that have no fault.
 abbrev pub RanBoth : BoardCommand → List ℕ → Setup → QuickEnd → Option (List ℕ) → Option (List ℕ) → ℕ → ℕ → Type 0
+RanBoth boards.Sim image setup r old new before after = RanSim image setup r old new before after
+RanBoth boards.Trace image setup r old new before after = RanTrace image setup r old new before after
 RanBoth boards.Check image setup r old new before after = Ran (at_rest Done (check_text image setup)) r old new before after
 
 -- What it leaves, by the judgement of both texts.

@@ -26,9 +26,12 @@ text_command word =
     if bytes_eq word (codes "bus") then Some text.Bus else
     (if bytes_eq word (codes "list") then Some text.List else None)
 
--- What the first word asks of an image and a board: `check HEX BOARD`.
+-- What the first word asks of an image and a board: `sim HEX BOARD`, `trace HEX BOARD` or `check HEX BOARD`.
 abbrev pub board_command : List ℕ → Option BoardCommand
-board_command word = if bytes_eq word (codes "check") then Some board.Check else None
+board_command word =
+    if bytes_eq word (codes "sim") then Some board.Sim else
+    (if bytes_eq word (codes "trace") then Some board.Trace else
+    (if bytes_eq word (codes "check") then Some board.Check else None))
 
 -- An operand is not empty and does not start with a dash.
 abbrev pub is_operand : List ℕ → Bool
@@ -52,4 +55,4 @@ command_of (a ∷ b ∷ c ∷ d ∷ more) = None
 
 -- What `--help` prints: each written form that is built, on a line of its own.
 abbrev pub forms : List ℕ
-forms = codes "check HEX BOARD\nbus SCRIPT\nlist HEX\n--help\n"
+forms = codes "sim HEX BOARD\ntrace HEX BOARD\ncheck HEX BOARD\nbus SCRIPT\nlist HEX\n--help\n"

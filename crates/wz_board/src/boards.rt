@@ -1,12 +1,13 @@
 //! Commands on the text of a firmware image and that of a board.
 ghost use Rattle.std.specs.Prelude.{◌≡◌, ◌≤◌, length, string_bytes, IfOk};
-ghost use Rattle.board_file.specs.Boards.{board_of};
+ghost use Rattle.board_file.specs.Boards.{board_of, IsWithinLimits};
 ghost use Rattle.wz_board.specs.declared.reading.TheConstants.{TEXT_LIMIT};
 ghost use Rattle.wz_board.specs.Checked.{beside, check_text, judged, programmed};
 ghost use Rattle.wz_board.specs.Outcome.{RanBoth, RanJudged};
 
 use crate::end::{EndKind, QuickEnd, Refusal};
 use crate::left::{nothing_ran, refuse};
+use crate::runs::{sim, trace};
 use crate::words::BoardCommand;
 use board_file::{Board, BoardError, board};
 use flash::Image;
@@ -53,9 +54,12 @@ fn with_both<K: Sink>(
     board: Board,
     out: &mut K,
 ) -> QuickEnd
+    requires { IsWithinLimits board }
     ensures { RanBoth what image board result (K.written out.old) (K.written out.new) (K.faults out.old) (K.faults out.new) }
 {
     match what {
+        BoardCommand::Sim => sim(alloc, image, board, out),
+        BoardCommand::Trace => trace(alloc, image, board, out),
         BoardCommand::Check => check(alloc, &image, &board, out),
     }
 }

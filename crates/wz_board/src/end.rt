@@ -2,6 +2,7 @@
 ghost use Rattle.std.specs.Prelude.{◌≡◌, string_bytes, IfOk};
 ghost use Rattle.wz_board.specs.Ends.{board_text, fault_text, hex_text, kind_text, script_kind_text, script_text, status_of};
 
+use avr_core::AvrStop;
 use board_file::BoardFault;
 use board_gen::{ScriptFault, ScriptKind};
 use chip_hist::history::History;
@@ -43,8 +44,20 @@ pub enum Refusal {
 pub enum EndKind {
     /// It finished.
     Done,
+    /// The firmware came to a `break`.
+    Break,
+    /// The firmware came to a `sleep` from which nothing wakes it.
+    Sleep,
+    /// At least as many cycles went by as the board allows.
+    CycleLimit,
     /// The chip answered a stop.
     Chip(ChipStop),
+    /// The firmware cannot go on.
+    Avr(AvrStop),
+    /// The history has reached its limit.
+    TraceFull,
+    /// The system's poll failed; only a live run ends so.
+    PollFault,
     /// A call of the sink failed, and its count of faults rose.
     WriteFault,
     /// It ran out of memory.
@@ -60,7 +73,7 @@ pub struct QuickEnd {
     pub status: u8,
     /// What happened on the chip's bus and its links, empty where the command made no event.
     pub history: History,
-    /// The scripted peers of a run on them, where they were made.
+    /// The scripted peers of a `sim` or a `trace`, where they were made.
     pub script: Option<ScriptLinks>,
     /// How the command ended.
     pub end: EndKind,
@@ -72,16 +85,19 @@ pub fn status_of(end: EndKind) -> u8
     ensures { result ≡ status_of end }
 {
     match end {
-        EndKind::Done => 0,
+        EndKind::Done | EndKind::Break | EndKind::Sleep => 0,
         EndKind::Refused(Refusal::Usage) => 2,
         EndKind::Refused(Refusal::Hex(_)) => 3,
         EndKind::Refused(Refusal::Board(_)) => 4,
         EndKind::Refused(Refusal::NoFile { .. } | Refusal::ReadFault { .. }) => 5,
         EndKind::WriteFault => 6,
         EndKind::NoMemory => 7,
+        EndKind::TraceFull => 8,
+        EndKind::PollFault => 9,
+        EndKind::CycleLimit => 10,
         EndKind::Refused(Refusal::TooLong { .. }) => 11,
         EndKind::Refused(Refusal::Script(_)) => 14,
-        EndKind::Chip(_) => 20,
+        EndKind::Chip(_) | EndKind::Avr(_) => 20,
     }
 }
 

@@ -1,5 +1,6 @@
-//! The board runner's program: `check HEX BOARD` judges a firmware image and a board, `bus SCRIPT` runs a bus script against the
-//! chip and prints what the chip answers, `list HEX` lists the instructions of a firmware image, `--help` prints these forms.
+//! The board runner's program: `sim HEX BOARD` runs a firmware image on a board with scripted peers, and prints what it prints and a
+//! report; `trace HEX BOARD` prints the trace of that run; `check HEX BOARD` judges an image and a board; `bus SCRIPT` runs a bus script
+//! against the chip and prints what the chip answers; `list HEX` lists the instructions of an image; `--help` prints these forms.
 #![tactic(auto)]
 
 mod boards;
@@ -7,6 +8,7 @@ mod end;
 mod left;
 mod quick;
 mod reading;
+mod runs;
 #[cfg(test)]
 mod tests;
 mod texts;

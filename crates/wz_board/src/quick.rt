@@ -1,10 +1,11 @@
 //! The top call: every command but a live run.
-ghost use Rattle.std.specs.Prelude.{◌≡◌, ℕ, ◌⊎◌, Some, None, map, string_bytes, IsSome, IfSome};
+ghost use Rattle.std.specs.Prelude.{◌≡◌, ℕ, ◌⊎◌, Some, None, map, string_bytes, true, IsSome, IfSome};
 ghost use Rattle.wz_base.specs.Outside.{Rose, RisesOnly};
 ghost use Rattle.wz_board.specs.Ends.{status_of};
 ghost use Rattle.wz_board.specs.Reads.{counts};
 ghost use Rattle.wz_board.specs.Words.{asked, command_of};
-ghost use Rattle.wz_board.specs.Outcome.{IsLegal, Reports, ReportsBoard, ReportsText};
+ghost use Rattle.wz_board.specs.Outcome.{asks_run, IsLegal, Reports, ReportsBoard, ReportsText};
+ghost use Rattle.wz_board.specs.Runs.{IsOfRun, IsTied};
 
 use crate::boards::on_board;
 use crate::end::{EndKind, QuickEnd, Refusal};
@@ -91,9 +92,11 @@ fn run_words<F: Files, K: Sink>(
 /// `Usage` exactly where the words are no written form. `NoFile`, `ReadFault` and `TooLong` of an operand, each by its cause; the
 /// second operand is read only where the first was. `Hex`, `Board` and `Script` exactly by the first fault of the text, that of an
 /// image before that of a board; a script's text is found faulty before anything runs, but for a link event that does not fit.
-/// `Chip` exactly where an event of the script has that stop. `WriteFault` exactly where the sink's count of faults rose; then what
-/// was written is a prefix of the text, and the history a prefix of the whole history. `NoMemory` may come at any time, with the
-/// same kept.
+/// `Chip` of a script exactly where an event of it has that stop. `Break`, `Sleep`, `CycleLimit`, `Avr`, `Chip` and `TraceFull` of a run
+/// exactly as the schedule of the image on the board ends, which is one function of both. `WriteFault` exactly where the sink's count of
+/// faults rose; then what was written is a prefix of the text, and the history a prefix of the whole history: where a serial byte of a
+/// run failed, that up to the step that printed it. `NoMemory` may come at any time, behind a prefix of the text. `PollFault` never
+/// comes.
 pub fn quick<F: Files, K: Sink>(
     alloc: Global,
     words: &[String],
@@ -104,6 +107,13 @@ pub fn quick<F: Files, K: Sink>(
     ensures reports { IfSome result (λ r. Reports (F.held files.old) (counts (F.misses files.old) (F.faults files.old)) (counts (F.misses files.new) (F.faults files.new)) (command_of (map string_bytes words.now)) r (K.written out.old) (K.written out.new) (K.faults out.old) (K.faults out.new)) }
     ensures legal { IfSome result (λ r. IsLegal r.history.past) }
     ensures status { IfSome result (λ r. r.status ≡ status_of r.end) }
+
+    // Scripted peers stand where a run was asked for and made them, and they agree with the history; only such a run has a run's ends, and
+    // no poll is made.
+    ensures scripted { IfSome result (λ r. IfSome r.script (λ links. asks_run (command_of (map string_bytes words.now)) ≡ true)) }
+    ensures tied { IfSome result (λ r. IfSome r.script (λ links. IsTied r.history.past links)) }
+    ensures made { IfSome result (λ r. IsOfRun r.end → IsSome r.script) }
+    ensures no_poll_fault { IfSome result (λ r. r.end ≡ EndKind.PollFault → ⊥) }
 
     // Each answer that is not of the texts has its cause.
     ensures usage { IfSome result (λ r. r.end ≡ EndKind.Refused Refusal.Usage → command_of (map string_bytes words.now) ≡ None) }

@@ -47,6 +47,21 @@ fn run(
     Ok(ended)
 }
 
+/// Runs a command on an image and a board of these texts; the writes of these numbers fail.
+fn run_board(
+    alloc: Global,
+    command: &str,
+    texts: (&str, &str),
+    failing: &[u64],
+    out: &mut Vec<u8>,
+) -> Result<Option<QuickEnd>, Fail> {
+    let files = files_of(
+        alloc,
+        &[("h", texts.0.as_bytes()), ("b", texts.1.as_bytes())],
+    )?;
+    run(alloc, &[command, "h", "b"], files, (&[], failing), out)
+}
+
 /// Socket 0 opened for TCP, connected, and linked; and what that prints.
 const C0: &str = "L 00 00 0C 01 H L 00 01 0C 01 H L 00 01 0C 04 H @0:linked\n";
 
@@ -290,19 +305,125 @@ fn checks_images_and_boards(rt: HostRuntime) -> Result<(), Fail> {
         (bad, "cycles = 0", "fault hex BadSum 1\n", 3),
     ] {
         let mut out = Vec::new(rt.alloc());
-        let files = files_of(
-            rt.alloc(),
-            &[("h", hex.as_bytes()), ("b", board.as_bytes())],
-        )?;
-        let ended = run(
-            rt.alloc(),
-            &["check", "h", "b"],
-            files,
-            (&[], &[]),
-            &mut out,
-        )?;
+        let ended = run_board(rt.alloc(), "check", (hex, board), &[], &mut out)?;
         assert_eq!(rt; out.as_slice(), shown.as_bytes(), "{board}");
         assert_eq!(rt; ended.map(|e| e.status), Some(status), "{board}");
+    }
+    Ok(())
+}
+
+/// Prints the letter A and stops.
+const LETTER: &str = ":0E00000088E08093C10081E48093C60098954B\n:00000001FF\n";
+
+/// Pulls the select line low, prints the letter A, lets the line go, and stops.
+const SELECTS: &str = ":1800000008E00093C10004E005B904B92A9801E40093C6002A9A98955C\n:00000001FF\n";
+
+#[test]
+fn runs_firmware_on_boards(rt: HostRuntime) -> Result<(), Fail> {
+    let jump = ":0200000000C03E\n:00000001FF\n";
+    let erased = ":00000001FF\n";
+    let head = "w5500 trace 1 0 0\n";
+    for (command, hex, board, shown, status) in [
+        (
+            "sim",
+            BREAK,
+            "",
+            "== end break\n== cycles 1\n== bus 0\n== link 0\n== faults 0\n",
+            0,
+        ),
+        (
+            "sim",
+            LETTER,
+            "",
+            "A\n== end break\n== cycles 7\n== bus 0\n== link 0\n== faults 0\n",
+            0,
+        ),
+        (
+            "sim",
+            jump,
+            "cycles = 1",
+            "== end cycle-limit\n== cycles 2\n== bus 0\n== link 0\n== faults 0\n== trail 0000\n",
+            10,
+        ),
+        (
+            "sim",
+            erased,
+            "",
+            "== end stop Illegal 0 65535\n== cycles 0\n== bus 0\n== link 0\n== faults 0\n== trail 0000\n",
+            20,
+        ),
+        (
+            "sim",
+            SELECTS,
+            "events = 1",
+            "== end trace-full\n== cycles 6\n== bus 1\n== link 0\n== faults 0\n",
+            8,
+        ),
+        ("trace", LETTER, "", head, 0),
+        ("trace", jump, "cycles = 1", head, 10),
+        ("trace", SELECTS, "", "w5500 trace 1 0 0\nL\n?1\nH\n?1\n", 0),
+        (
+            "trace",
+            SELECTS,
+            "tx_start = 7\nevents = 1",
+            "w5500 trace 1 7 0\nL\n",
+            8,
+        ),
+        ("sim", "", "", "fault hex NoEnd 0\n", 3),
+        (
+            "trace",
+            BREAK,
+            "cycles = 0",
+            "fault board cycles 0 OutOfRange\n",
+            4,
+        ),
+    ] {
+        let mut out = Vec::new(rt.alloc());
+        let ended = run_board(rt.alloc(), command, (hex, board), &[], &mut out)?;
+        assert_eq!(rt; out.as_slice(), shown.as_bytes(), "{command} {hex} {board}");
+        let left = ended.map(|e| (e.status, e.script.is_some()));
+        assert_eq!(rt;
+            left,
+            Some((status, status != 3 && status != 4)),
+            "{command} {hex} {board}"
+        );
+    }
+    Ok(())
+}
+
+/// Over the bus: connects socket 0 to 10.0.0.2, port 5000, sends two bytes, and stops.
+const SENDS: &str = ":2000000004E005B90CE204B900E50CBD08E00093C100EEE3F0E015911F3F69F0103071F00A\n\
+:200020002A9825912EBD3DB537FFFDCF3EB51A95C1F72A9AF0CF3093C600EDCF9895090011\n\
+:200040000C0C0A00000213880400000C010400010C010400010C0405000308000005000391\n\
+:160060000800000500240C00020400010C20050002080000FF000C\n\
+:00000001FF\n";
+
+#[test]
+fn reports_a_link_that_fails(rt: HostRuntime) -> Result<(), Fail> {
+    // The peer fails at the read in the sweep that links the socket, so nothing is sent.
+    let board = "[[peer]]\nkind = \"server\"\naddr = \"10.0.0.2\"\nport = 5000\nfail = 1\n";
+    let mut out = Vec::new(rt.alloc());
+    let ended = run_board(rt.alloc(), "sim", (SENDS, board), &[], &mut out)?;
+    assert!(rt; out.ends_with(b"== socket 0 00 1 0 0 0\n== faults 1\n"));
+    assert_eq!(rt; ended.map(|e| (e.status, e.end)), Some((0, EndKind::Break)));
+    Ok(())
+}
+
+#[test]
+fn stops_a_run_at_a_failed_write(rt: HostRuntime) -> Result<(), Fail> {
+    // The letter is printed behind the second of four events; the report and the trace are written behind the run.
+    for (command, failing, shown, events) in [
+        ("sim", 1, "", 2),
+        ("sim", 2, "A", 4),
+        ("trace", 1, "", 4),
+    ] {
+        let mut out = Vec::new(rt.alloc());
+        let ended = run_board(rt.alloc(), command, (SELECTS, ""), &[failing], &mut out)?;
+        assert_eq!(rt; out.as_slice(), shown.as_bytes());
+        assert_eq!(rt;
+            ended.map(|e| (e.status, e.history.len())),
+            Some((6, events))
+        );
     }
     Ok(())
 }
@@ -317,7 +438,7 @@ fn prints_the_written_forms(rt: HostRuntime) -> Result<(), Fail> {
         (&[1], &[]),
         &mut out,
     )?;
-    let forms = "check HEX BOARD\nbus SCRIPT\nlist HEX\n--help\n";
+    let forms = "sim HEX BOARD\ntrace HEX BOARD\ncheck HEX BOARD\nbus SCRIPT\nlist HEX\n--help\n";
     assert_eq!(rt; out.as_slice(), forms.as_bytes());
     assert_eq!(rt; ended.map(|e| (e.status, e.end)), Some((0, EndKind::Done)));
     Ok(())

@@ -16,7 +16,8 @@ use std::alloc::{AllocError, Global};
 use wz_base::{LineBuffer, Sink, WriteError, write_all};
 
 /// The written forms, each on a line of its own.
-const FORMS: &str = "check HEX BOARD\nbus SCRIPT\nlist HEX\n--help\n";
+const FORMS: &str =
+    "sim HEX BOARD\ntrace HEX BOARD\ncheck HEX BOARD\nbus SCRIPT\nlist HEX\n--help\n";
 
 /// Prints the written forms.
 pub fn help<K: Sink>(alloc: Global, out: &mut K) -> QuickEnd

@@ -14,6 +14,10 @@ pub enum TextCommand {
 /// What is asked of the text of a firmware image and that of a board.
 #[derive(Clone, Copy, Debug, PartialEq, Eq)]
 pub enum BoardCommand {
+    /// `sim HEX BOARD`: runs the image on the board with its scripted peers, and prints what it prints and a report.
+    Sim,
+    /// `trace HEX BOARD`: runs as `sim` does, and prints the trace of the run.
+    Trace,
     /// `check HEX BOARD`: judges both, and counts what they say.
     Check,
 }
@@ -57,6 +61,8 @@ fn board_command(word: &str) -> Option<BoardCommand>
     ensures { result ≡ board_command word.now }
 {
     match word {
+        "sim" => Some(BoardCommand::Sim),
+        "trace" => Some(BoardCommand::Trace),
         "check" => Some(BoardCommand::Check),
         _ => None,
     }
