@@ -32,7 +32,7 @@ end-by Ran limit cycles e is = at-limit (nat_le limit cycles) e is
 end-by Asleep limit cycles e is = at-limit (nat_le limit cycles) e is
 end-by Served limit cycles e is = at-limit (nat_le limit cycles) e is
 
-pub end-wants : (wants : Option BusEvent) (went : McuWent) (limit cycles : ℕ) (e : RunEnd) → end_of wants went limit cycles ≡ Some e → EndWants e wants
+end-wants : (wants : Option BusEvent) (went : McuWent) (limit cycles : ℕ) (e : RunEnd) → end_of wants went limit cycles ≡ Some e → EndWants e wants
 end-wants None went limit cycles e is = end-by went limit cycles e is
 end-wants (Some c) went limit cycles e is = let eq : ends.Wants c ≡ e = cc in subst (λ x. EndWants x (Some c)) eq refl
 

@@ -22,7 +22,6 @@ use Rattle.board_sim.specs.Sweeps.{Swept, rested, whole}
 use Rattle.board_sim.specs.Schedule.{Standing, Turn, GoesTo, turn, turned}
 use Rattle.board_sim.specs.Seats.{Seat, seen, wanted_of, IsWell}
 use Rattle.board_sim.specs.Playing.{Printed, Prints, Settles, CutAt, Walked, WalkedTo, Goes, IsReady, later, standing}
-use Rattle.board_sim.specs.declared.peer.Unanswered.{Unanswered}
 use Rattle.board_sim.specs.declared.play.Cut.{Cut}
 use Rattle.board_sim.specs.declared.play.Cut.TheVariants as cuts
 use Rattle.board_sim.proofs.Rested.{not_due, rested_not}
@@ -232,8 +231,3 @@ pub turn_counts : (did : Seat → (c : BusEvent) → AnswerTo c → Seat → Typ
 turn_counts did cycles s now p q went byte end law step well =
     let to = plays-by did seen IsWell answers next law (stepped s) p q (gone went step.left) step.plays well in
     ap (λ (b : Board). b.steps) to.bus ∙ played_steps (stepped s) (seen p)
-
--- Where no event waits for an answer, none was refused.
-pub none_refused : (refused : Option Unanswered) → wanted_of refused ≡ None → refused ≡ None
-none_refused None e = refl
-none_refused (Some u) e = absurd (cc)
