@@ -10,7 +10,7 @@ use std::io::{Read, Write};
 use std::net::{Ipv4Addr, Net, SocketAddr, TcpListener, UdpSocket};
 use std::test::Fail;
 
-/// How often a call is made before the test gives up, with a wait after each that is answered NotYet.
+/// How often a call is made before the test gives up.
 const TRIES: u32 = 5000;
 
 /// The address that the firmware names.
@@ -59,6 +59,11 @@ fn read_made<R: Net>(links: &mut HostLinks<'_, R>, c: ConnId, buf: &mut [u8]) ->
 }
 
 /// Links and their poller may go to threads of their own.
+fn sent<L: Links + Send, P: Poller + Send>(links: L, poller: P) -> (L, P) {
+    (links, poller)
+}
+
+/// Links whose connection to the named address is made, with a wait after each call that is answered NotYet.
 fn open<'a, R: Net>(links: HostLinks<'a, R>, poller: MioPoller, c: ConnId) -> Option<Session<'a, R>>
     requires { c.sn < 8 }
 {
@@ -102,9 +107,10 @@ fn routes_to(alloc: Global, port: u16) -> Result<Routes, Fail> {
 #[test]
 fn five_bytes_go_to_a_listener_and_come_back(rt: HostRuntime) -> Result<(), Fail> {
     let listener = TcpListener::bind(&rt, SocketAddr::from((Ipv4Addr::LOCALHOST, 0)))?;
-    let Ok((mut links, poller)) = host_pair(&rt, rt.alloc()) else {
+    let Ok((links, poller)) = host_pair(&rt, rt.alloc()) else {
         panic!(rt; "no pair");
     };
+    let (mut links, poller) = sent(links, poller);
     links.set_routes(routes_to(rt.alloc(), listener.local_addr()?.port())?);
     let Some(mut session) = open(links, poller, ConnId { sn: 0, life: 1 }) else {
         panic!(rt; "no connection");
@@ -132,7 +138,7 @@ fn a_datagram_that_is_too_long_is_passed_over(rt: HostRuntime) -> Result<(), Fai
     assert_eq!(rt; links.send_to(c, 0, NAMED, b"bo", b"ard"), Sending::Done);
     let mut heard = [0; 1473];
     let (count, from) = peer.recv_from(&mut heard)?;
-    assert_eq!(rt; &heard[..count], b"board");
+    assert_eq!(rt; &heard[..count], b"board".as_slice());
     peer.send_to(&heard, from)?;
     peer.send_to(&heard[..5], from)?;
     let mut buf = [0; 1472];
@@ -143,7 +149,7 @@ fn a_datagram_that_is_too_long_is_passed_over(rt: HostRuntime) -> Result<(), Fai
             }
             answer => {
                 assert_eq!(rt; answer, Receiving::Done(5, NAMED));
-                assert_eq!(rt; &buf[..5], b"board");
+                assert_eq!(rt; &buf[..5], b"board".as_slice());
                 return Ok(());
             }
         }
