@@ -4,14 +4,14 @@
 //! its answers are counted is ([`HostLinks`] meets the trait of links, [`MioPoller`] that of pollers).
 #![tactic(auto)]
 
-pub mod connections;
-pub mod counting;
-pub mod datagrams;
-pub mod listening;
-pub mod naming;
+mod connections;
+mod counting;
+mod datagrams;
+mod listening;
+mod naming;
 pub mod pair;
-pub mod places;
-pub mod sockets;
+mod places;
+mod sockets;
 
 pub use pair::{HostFault, HostLinks, MioPoller, host_pair};
 

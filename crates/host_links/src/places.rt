@@ -87,6 +87,13 @@ impl Place {
         self.socket = socket;
     }
 
+    /// Closes what stands here for a life, and nothing for another.
+    pub fn forget(&mut self, life: u64) {
+        if self.life == life {
+            self.socket = Socket::Closed;
+        }
+    }
+
     /// Whether a connection stands here, made or on its way.
     pub fn has_stream(&self) -> bool {
         matches!(self.socket, Socket::Stream(_))

@@ -225,13 +225,10 @@ impl<'a, R: Net> Sockets<'a, R> {
         place.shut()
     }
 
-    /// Closes what stands in the place of a connection.
+    /// Forgets a connection, and closes its socket.
     pub fn drop_conn(&mut self, c: ConnId)
         requires { c.sn < 8 }
     {
-        let place = &mut self.places[c.sn as usize];
-        if place.enter(c.life) {
-            place.put(Socket::Closed);
-        }
+        self.places[c.sn as usize].forget(c.life);
     }
 }
