@@ -1,0 +1,4 @@
+pub mod Connections
+pub mod Tallies
+pub mod Names
+pub mod Pair
