@@ -60,8 +60,7 @@ Reports end text ends.WriteFault old new = AppendsFront old text new
 Reports end text ends.NoMemory old new = AppendsFront old text new
 Reports end text result old new = (result ≡ end) × Appends old text new
 
--- A report, where one is due: a run that ended by a failed write or for want of memory has none. Its trace, where it has none for want
--- of memory alone, is told so too.
+-- A report or a trace, where one is due: behind a failed write, and where memory ran out, there is none.
 abbrev pub ReportsBehind : RunEnd → List ℕ → RunEnd → Option (List ℕ) → Option (List ℕ) → Type 0
 ReportsBehind ends.WriteFault text result old new = (result ≡ ends.WriteFault) × (new ≡ old)
 ReportsBehind ends.NoMemory text result old new = (result ≡ ends.NoMemory) × (new ≡ old)

@@ -1,9 +1,11 @@
-//! Reports and traces of a small history.
-use crate::end::RunEnd;
+//! Reports and traces of a small history, and runs of firmware of one instruction.
+use crate::end::{RunEnd, SimEnd};
 use crate::report::report;
+use crate::runs::{sim, trace};
 use crate::trace::{TraceError, write_trace};
 use avr_core::AvrStop;
 use avr_mcu::Mcu;
+use board_file::board;
 use chip_core::Chip;
 use chip_hist::{History, data_len};
 use chip_sheet::event::{BusAnswer, BusEvent, Event, LinkWhat};
@@ -75,6 +77,71 @@ fn writes_traces(rt: HostRuntime) -> Result<(), Fail> {
         let mut out = MemSink::new(rt.alloc(), 100, vec![in rt.alloc(); failing]?)?;
         let answered = write_trace(rt.alloc(), &history, 100, 65535, &mut out);
         assert_eq!(rt; answered, answer);
+        assert_eq!(rt; out.bytes(), shown.as_bytes());
+    }
+    Ok(())
+}
+
+/// Which call a run is made by.
+#[derive(Clone, Copy)]
+enum Made {
+    Sim,
+    Trace,
+}
+
+/// Runs firmware of one instruction, of these bytes, on a board of this text.
+fn run_bytes(
+    alloc: Global,
+    made: Made,
+    [low, high]: [u8; 2],
+    text: &str,
+    out: &mut MemSink,
+) -> Result<SimEnd, Fail> {
+    let mut image = Image::blank(alloc)?;
+    image.set(0, low);
+    image.set(1, high);
+    let board = board(alloc, text.as_bytes())?;
+    Ok(match made {
+        Made::Sim => sim(alloc, image, board, out),
+        Made::Trace => trace(alloc, image, board, out),
+    })
+}
+
+#[test]
+fn runs_firmware(rt: HostRuntime) -> Result<(), Fail> {
+    let broken = "== end break\n== cycles 1\n== bus 0\n== link 0\n== faults 0\n";
+    let limited =
+        "== end cycle-limit\n== cycles 2\n== bus 0\n== link 0\n== faults 0\n== trail 0000\n";
+    let traced = "w5500 trace 1 0 0\n";
+    for (made, bytes, text, failing, end, cycles, shown) in [
+        (Made::Sim, [0x98, 0x95], "", 0, RunEnd::Break, 1, broken),
+        (
+            Made::Sim,
+            [0x00, 0xC0],
+            "cycles = 1",
+            0,
+            RunEnd::CycleLimit,
+            2,
+            limited,
+        ),
+        (Made::Sim, [0x98, 0x95], "", 1, RunEnd::WriteFault, 1, ""),
+        (Made::Trace, [0x98, 0x95], "", 0, RunEnd::Break, 1, traced),
+        (
+            Made::Trace,
+            [0x00, 0xC0],
+            "cycles = 1",
+            0,
+            RunEnd::CycleLimit,
+            2,
+            traced,
+        ),
+        (Made::Trace, [0x98, 0x95], "", 1, RunEnd::WriteFault, 1, ""),
+    ] {
+        let mut out = MemSink::new(rt.alloc(), 200, vec![in rt.alloc(); failing]?)?;
+        let left = run_bytes(rt.alloc(), made, bytes, text, &mut out)?;
+        assert_eq!(rt; left.end, end);
+        assert_eq!(rt; left.cycles, cycles);
+        assert_eq!(rt; left.history.len(), 0);
         assert_eq!(rt; out.bytes(), shown.as_bytes());
     }
     Ok(())
