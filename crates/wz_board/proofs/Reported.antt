@@ -22,10 +22,13 @@ use Rattle.board_file.specs.Boards.{Setup, board_of}
 use Rattle.board_gen.specs.declared.end.ScriptStop.{ScriptStop}
 use Rattle.board_gen.specs.declared.end.ScriptStop.TheVariants as stops
 use Rattle.board_gen.specs.Shown.{shown as shown_script}
+use Rattle.board_judge.specs.declared.end.JudgeStop.{JudgeStop}
+use Rattle.board_judge.specs.declared.end.JudgeStop.TheVariants as judges
+use Rattle.board_judge.specs.Shown.{shown as shown_trace}
 use Rattle.wz_board.specs.declared.end.Refusal.{Refusal}
 use Rattle.wz_board.specs.declared.end.Refusal.TheVariants as refusals
 use Rattle.wz_board.specs.declared.end.EndKind.{EndKind}
-use Rattle.wz_board.specs.declared.end.EndKind.TheVariants.{Done, Break, Sleep, CycleLimit, Avr, TraceFull, PollFault, WriteFault, NoMemory, Refused}
+use Rattle.wz_board.specs.declared.end.EndKind.TheVariants.{Break, Sleep, CycleLimit, Avr, TraceFull, PollFault, WriteFault, NoMemory, Refused}
 use Rattle.wz_board.specs.declared.end.QuickEnd.{QuickEnd}
 use Rattle.wz_board.specs.declared.words.TextCommand.{TextCommand}
 use Rattle.wz_board.specs.declared.words.TextCommand.TheVariants as texts
@@ -33,9 +36,9 @@ use Rattle.wz_board.specs.declared.words.BoardCommand.{BoardCommand}
 use Rattle.wz_board.specs.declared.words.BoardCommand.TheVariants as boards
 use Rattle.wz_board.specs.Checked.{beside, judged, judged_image, with_board}
 use Rattle.wz_board.specs.Reads.{Counts, Reading, WasRead}
-use Rattle.wz_board.specs.Words.{Asked, OnText, OnBoard, Help}
-use Rattle.wz_board.specs.Outcome.{Outcome, end_of, listed_outcome, on_reading, text_outcome, unread, asks_run, IsLegal, Ran, RanBoard, RanBoth, RanJudged, Reports, Shows}
-use Rattle.wz_board.specs.Runs.{end_of_run, IsOfRun, IsTied, KeepsRun, ShowsRun}
+use Rattle.wz_board.specs.Words.{Asked, OnText, OnBoard, Gen, Help}
+use Rattle.wz_board.specs.Outcome.{Outcome, end_of, end_of_judge, listed_outcome, on_reading, text_outcome, unread, asks_run, IsLegal, Ran, RanBoard, RanBoth, RanJudged, Reports, Shows}
+use Rattle.wz_board.specs.Runs.{end_of_run, IsOfRun, IsTied, KeepsRun, RanSim, ShowsRun}
 use Rattle.wz_board.proofs.Causes.{rose_since}
 use Rattle.wz_board.proofs.Scheduled.{no_poll, run_end}
 
@@ -54,12 +57,20 @@ script_ends (stops.Chip s) = tt
 script_ends stops.WriteFault = tt
 script_ends stops.NoMemory = tt
 
+judge_ends : (end : JudgeStop) → IsOfTexts (end_of_judge end)
+judge_ends judges.Done = tt
+judge_ends (judges.Fault fault) = tt
+judge_ends (judges.Judged fault) = tt
+judge_ends judges.WriteFault = tt
+judge_ends judges.NoMemory = tt
+
 list_ends : (text : List ℕ) (fault : Option HexFault) → IsOfTexts (listed_outcome (judged_image text fault)).end
 list_ends text None = tt
 list_ends text (Some fault) = tt
 
 text_ends : (what : TextCommand) (text : List ℕ) → IsOfTexts (text_outcome what text).end
 text_ends texts.Bus text = script_ends (shown_script text).end
+text_ends texts.Judge text = judge_ends (shown_trace text).end
 text_ends texts.List text = list_ends text (fault_in text)
 
 -- a refusal is that of the outcome
@@ -89,8 +100,11 @@ run_of_texts cut o text end past script old new it =
     let of = run_end cut o text end past script old new it in
     subst IsOfTexts (sym of.1) (run_ends of.0)
 
+sim_ends : (image : List ℕ) (setup : Setup) (r : QuickEnd) (old new : Option (List ℕ)) (faults faults' : ℕ) → RanSim image setup r old new faults faults' → IsOfTexts r.end
+sim_ends image setup r old new faults faults' ran = run_of_texts _ _ _ r.end _ _ old new ran.shows
+
 both_ends : (what : BoardCommand) (image : List ℕ) (setup : Setup) (r : QuickEnd) (old new : Option (List ℕ)) (faults faults' : ℕ) → RanBoth what image setup r old new faults faults' → IsOfTexts r.end
-both_ends boards.Sim image setup r old new faults faults' ran = run_of_texts _ _ _ r.end _ _ old new ran.shows
+both_ends boards.Sim image setup r old new faults faults' ran = sim_ends image setup r old new faults faults' ran
 both_ends boards.Trace image setup r old new faults faults' ran = run_of_texts _ _ _ r.end _ _ old new ran.shows
 both_ends boards.Check image setup r old new faults faults' ran = ran_of_texts _ r old new faults faults' tt ran
 
@@ -155,6 +169,7 @@ pub reports_missed : (files : Option (List ℕ → Option (List ℕ))) (before a
     → Reports files before after form r old new faults faults' → (operand : ℕ) → r.end ≡ Refused (refusals.NoFile operand) → Rose before.misses after.misses
 reports_missed files before after None r old new faults faults' it operand is = cc (ran_ends _ r old new faults faults' _ it.ran is)
 reports_missed files before after (Some Help) r old new faults faults' it operand is = cc (ran_ends _ r old new faults faults' _ it.ran is)
+reports_missed files before after (Some (Gen number)) r old new faults faults' it operand is = absurd (subst IsOfTexts is (sim_ends _ _ r old new faults faults' it.ran))
 reports_missed files before after (Some (OnText what name)) r old new faults faults' it operand is =
     it.read.missed.rose (text_missed operand what it.reading (ran_ends _ r old new faults faults' _ it.ran is))
 reports_missed files before after (Some (OnBoard what image board)) r old new faults faults' it operand is =
@@ -165,6 +180,7 @@ pub reports_failed : (files : Option (List ℕ → Option (List ℕ))) (before a
     → Reports files before after form r old new faults faults' → (operand : ℕ) → r.end ≡ Refused (refusals.ReadFault operand) → Rose before.faults after.faults
 reports_failed files before after None r old new faults faults' it operand is = cc (ran_ends _ r old new faults faults' _ it.ran is)
 reports_failed files before after (Some Help) r old new faults faults' it operand is = cc (ran_ends _ r old new faults faults' _ it.ran is)
+reports_failed files before after (Some (Gen number)) r old new faults faults' it operand is = absurd (subst IsOfTexts is (sim_ends _ _ r old new faults faults' it.ran))
 reports_failed files before after (Some (OnText what name)) r old new faults faults' it operand is =
     it.read.failed.rose (text_failed operand what it.reading (ran_ends _ r old new faults faults' _ it.ran is))
 reports_failed files before after (Some (OnBoard what image board)) r old new faults faults' it operand is =
@@ -190,6 +206,7 @@ pub reports_usage : (files : Option (List ℕ → Option (List ℕ))) (before af
     → Reports files before after form r old new faults faults' → r.end ≡ Refused refusals.Usage → form ≡ None
 reports_usage files before after None r old new faults faults' it is = refl
 reports_usage files before after (Some Help) r old new faults faults' it is = cc (ran_ends _ r old new faults faults' _ it.ran is)
+reports_usage files before after (Some (Gen number)) r old new faults faults' it is = absurd (subst IsOfTexts is (sim_ends _ _ r old new faults faults' it.ran))
 reports_usage files before after (Some (OnText what name)) r old new faults faults' it is =
     absurd (no_usage_text what it.reading (ran_ends _ r old new faults faults' _ it.ran is))
 reports_usage files before after (Some (OnBoard what image board)) r old new faults faults' it is =
@@ -265,10 +282,14 @@ keeps_follows form setup r faults faults' asks no_poll_fault it = record {
   written = it.causes;
 }
 
+sim_follows : (form : Option Asked) (image : List ℕ) (setup : Setup) (r : QuickEnd) (old new : Option (List ℕ)) (faults faults' : ℕ) → asks_run form ≡ true → RanSim image setup r old new faults faults'
+    → Follows form r faults faults'
+sim_follows form image setup r old new faults faults' asks ran =
+    keeps_follows form setup r faults faults' asks (no_poll _ image setup _ r.end _ _ old new ran.firmware ran.shows) ran.keeps
+
 both_follows : (what : BoardCommand) (one two : List ℕ) (image : List ℕ) (setup : Setup) (r : QuickEnd) (old new : Option (List ℕ)) (faults faults' : ℕ) → RanBoth what image setup r old new faults faults'
     → Follows (Some (OnBoard what one two)) r faults faults'
-both_follows boards.Sim one two image setup r old new faults faults' ran =
-    keeps_follows _ setup r faults faults' refl (no_poll _ image setup _ r.end _ _ old new ran.firmware ran.shows) ran.keeps
+both_follows boards.Sim one two image setup r old new faults faults' ran = sim_follows _ image setup r old new faults faults' refl ran
 both_follows boards.Trace one two image setup r old new faults faults' ran =
     keeps_follows _ setup r faults faults' refl (no_poll _ image setup _ r.end _ _ old new ran.firmware ran.shows) ran.keeps
 both_follows boards.Check one two image setup r old new faults faults' ran = ran_follows _ _ r old new faults faults' tt ran
@@ -292,6 +313,10 @@ script_plain : (end : ScriptStop) → IsPlain (end_of end)
 script_plain stops.Done = tt
 script_plain end = tt
 
+judge_plain : (end : JudgeStop) → IsPlain (end_of_judge end)
+judge_plain judges.Done = tt
+judge_plain end = tt
+
 listed_plain : (text : List ℕ) (fault : Option HexFault) → IsPlain (listed_outcome (judged_image text fault)).end
 listed_plain text None = tt
 listed_plain text (Some fault) = tt
@@ -299,11 +324,13 @@ listed_plain text (Some fault) = tt
 reading_plain : (what : TextCommand) (reading : Reading) → IsPlain (on_reading what reading).end
 reading_plain what (Err e) = unread_plain 1 e
 reading_plain texts.Bus (Ok text) = script_plain (shown_script text).end
+reading_plain texts.Judge (Ok text) = judge_plain (shown_trace text).end
 reading_plain texts.List (Ok text) = listed_plain text (fault_in text)
 
 pub reports_follows : (files : Option (List ℕ → Option (List ℕ))) (before after : Counts) (form : Option Asked) (r : QuickEnd) (old new : Option (List ℕ)) (faults faults' : ℕ)
     → Reports files before after form r old new faults faults' → Follows form r faults faults'
 reports_follows files before after None r old new faults faults' it = ran_follows _ _ r old new faults faults' tt it.ran
 reports_follows files before after (Some Help) r old new faults faults' it = ran_follows _ _ r old new faults faults' tt it.ran
+reports_follows files before after (Some (Gen number)) r old new faults faults' it = sim_follows _ _ _ r old new faults faults' refl it.ran
 reports_follows files before after (Some (OnText what name)) r old new faults faults' it = ran_follows _ _ r old new faults faults' (reading_plain what it.reading) it.ran
 reports_follows files before after (Some (OnBoard what image board)) r old new faults faults' it = board_follows what image board it.first it.second r old new faults faults' it.ran

@@ -1,12 +1,8 @@
 -- What a scripted run leaves, as a command's.
-use Rattle.std.proofs.Common.{arith, ◌≡◌, ◌≢◌, ℕ, List, [], Option, None, Some, IfSome, refl, sym, ap, ◌∙◌, subst}
+use Rattle.std.proofs.Common.{arith, ◌≡◌, ◌≢◌, ℕ, List, [], Option, None, refl, sym, ap, ◌∙◌, subst}
 use Rattle.chip_sheet.specs.Past.{Past}
 use Rattle.chip_sheet.specs.Legal.{Legal}
-use Rattle.chip_shared.specs.Tied.{Tied}
-use Rattle.link_script.specs.Links.{played_of}
-use Rattle.link_script.specs.Play.{shown}
 use Rattle.link_script.specs.declared.script_links.ScriptLinks.{ScriptLinks}
-use Rattle.wz_base.specs.Outside.{RisesOnly}
 use Rattle.board_file.specs.Boards.{Setup}
 use Rattle.board_sim.specs.Schedule as schedule
 use Rattle.board_sim.specs.Ends.{outcome, sim_text, starts_of, traced, Holds, IsWhole, SimBy, Sims, StopsAtTrace, TraceBy, TracesRun}

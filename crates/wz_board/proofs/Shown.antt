@@ -1,5 +1,5 @@
--- A script's end as a command's, and the line of a refusal, also behind the script's text.
-use Rattle.std.proofs.Common.{arith, append-nil, ◌≡◌, ◌≢◌, ℕ, List, [], ◌++◌, Option, None, Result, Ok, Err, refl, sym, ap, ◌∙◌, subst}
+-- The end of a script and of a judged trace as a command's, and the line of a refusal, also behind their text.
+use Rattle.std.proofs.Common.{arith, append-nil, ◌≡◌, ℕ, List, [], ◌++◌, Option, None, Some, Result, Ok, Err, refl, sym, ap, ◌∙◌, subst}
 use Rattle.chip_sheet.specs.Past.{Past}
 use Rattle.chip_sheet.specs.Legal.{Legal}
 use Rattle.wz_base.specs.Outside.{RisesOnly}
@@ -9,8 +9,10 @@ use Rattle.board_file.specs.Boards.{Setup}
 use Rattle.board_gen.specs.declared.fault.ScriptFault.{ScriptFault}
 use Rattle.board_gen.specs.declared.end.ScriptStop.{ScriptStop}
 use Rattle.board_gen.specs.declared.end.ScriptStop.TheVariants as stops
-use Rattle.board_gen.specs.Shown.{shown}
 use Rattle.board_gen.specs.Shown as script
+use Rattle.board_judge.specs.declared.end.JudgeStop.{JudgeStop}
+use Rattle.board_judge.specs.declared.end.JudgeStop.TheVariants as judges
+use Rattle.board_judge.specs.Shown as trace
 use Rattle.wz_board.specs.declared.end.Refusal.{Refusal}
 use Rattle.wz_board.specs.declared.end.Refusal.TheVariants as refusals
 use Rattle.wz_board.specs.declared.end.EndKind.{EndKind}
@@ -19,42 +21,49 @@ use Rattle.wz_board.specs.Ends.{fault_text}
 use Rattle.wz_board.specs.declared.end.QuickEnd.{QuickEnd}
 use Rattle.wz_board.specs.declared.words.BoardCommand.{BoardCommand}
 use Rattle.wz_board.specs.declared.words.BoardCommand.TheVariants as boards
-use Rattle.wz_board.specs.Outcome.{Outcome, end_of, last_line, refused, script_outcome, AddsLine, IsCut, IsWhole, Ran, RanJudged, Shows}
+use Rattle.wz_board.specs.Outcome.{Outcome, end_of, end_of_judge, judge_run, last_line, refused, script_run, line_of, text_fault, with_last_line, AddsLine, IsCut, IsWhole, Ran, RanJudged, Shows}
 use Rattle.wz_board.proofs.Causes.{rises_as}
 use Rattle.wz_board.proofs.Scheduled.{firmware_ends, keeps_none}
 
 -- the text and the line behind it
-added : (text : List ℕ) (end : ScriptStop) (line : List ℕ) (old new : Option (List ℕ)) → end ≡ (shown text).end → last_line end ≡ line → Appends old ((shown text).text ++ line) new
-    → Appends old (script_outcome text).text new
-added text end line old new is last written =
-    subst (λ (l : List ℕ). Appends old ((shown text).text ++ l) new) (sym last ∙ ap last_line is) written
+added : (o : Outcome) (end : EndKind) (line : List ℕ) (old new : Option (List ℕ)) → end ≡ o.end → last_line end ≡ line → Appends old (o.text ++ line) new → Appends old (with_last_line o).text new
+added o end line old new is last written = subst (λ (l : List ℕ). Appends old (o.text ++ l) new) (sym last ∙ ap last_line is) written
 
-whole : (text : List ℕ) (end : ScriptStop) (past : Past) (old new : Option (List ℕ)) → last_line end ≡ [] → script.IsWhole (shown text) end past old new → IsWhole (script_outcome text) (end_of end) past old new
-whole text end past old new last it =
-    (ap end_of it.0, it.1, added text end [] old new it.0 last (subst (λ (t : List ℕ). Appends old t new) (sym (append-nil (shown text).text)) it.2))
+whole : (o : Outcome) (end : EndKind) (past : Past) (old new : Option (List ℕ)) → last_line end ≡ [] → IsWhole o end past old new → IsWhole (with_last_line o) end past old new
+whole o end past old new last it =
+    (it.0, it.1, added o end [] old new it.0 last (subst (λ (t : List ℕ). Appends old t new) (sym (append-nil o.text)) it.2))
 
-cut : (text : List ℕ) (past : Past) (old new : Option (List ℕ)) → script.IsFront (shown text) past old new → IsCut (script_outcome text) past old new
-cut text past old new it = (it.0, front_before old new (shown text).text (last_line (shown text).end) it.1)
+cut : (o : Outcome) (past : Past) (old new : Option (List ℕ)) → IsCut o past old new → IsCut (with_last_line o) past old new
+cut o past old new it = (it.0, front_before old new o.text (last_line o.end) it.1)
 
--- an end without a fault
-pub plain_shown : (text : List ℕ) (end : ScriptStop) (past : Past) (old new : Option (List ℕ)) → ((fault : ScriptFault) → end ≢ stops.Fault fault) → script.Shows (shown text) end past old new
-    → Shows (script_outcome text) (end_of end) past old new
-plain_shown text stops.Done past old new not it = whole text stops.Done past old new refl it
-plain_shown text (stops.Fault fault) past old new not it = absurd (not fault refl)
-plain_shown text (stops.Chip s) past old new not it = whole text (stops.Chip s) past old new refl it
-plain_shown text stops.WriteFault past old new not it = cut text past old new it
-plain_shown text stops.NoMemory past old new not it = cut text past old new it
+-- an end without a fault of the text
+pub plain_told : (o : Outcome) (end : EndKind) (past : Past) (old new : Option (List ℕ)) → text_fault end ≡ None → Shows o end past old new → Shows (with_last_line o) end past old new
+plain_told o WriteFault past old new none it = cut o past old new it
+plain_told o NoMemory past old new none it = cut o past old new it
+plain_told o end past old new none it = whole o end past old new (ap line_of none) it
 
--- a fault, whose line is written behind the text
-pub fault_shown : (text : List ℕ) (fault : ScriptFault) (end : EndKind) (past : Past) (old mid new : Option (List ℕ)) → script.Shows (shown text) (stops.Fault fault) past old mid
-    → AddsLine (refusals.Script fault) end mid new → Shows (script_outcome text) end past old new
-fault_shown text fault WriteFault past old mid new it adds =
-    (([], sym it.1), subst (λ (l : List ℕ). AppendsFront old ((shown text).text ++ l) new) (ap last_line it.0) (front_then old mid new (shown text).text (fault_text (refusals.Script fault)) it.2 adds))
-fault_shown text fault NoMemory past old mid new it adds =
-    (([], sym it.1), subst (λ (m : Option (List ℕ)). AppendsFront old ((shown text).text ++ last_line (shown text).end) m) (sym adds) (front_first old mid (shown text).text (last_line (shown text).end) it.2))
-fault_shown text fault (Refused r) past old mid new it adds =
-    (ap Refused adds.0 ∙ ap end_of it.0, it.1, added text (stops.Fault fault) (fault_text (refusals.Script fault)) old new it.0 refl (appends_then old mid new (shown text).text (fault_text (refusals.Script fault)) it.2 adds.1))
-fault_shown text fault end past old mid new it adds = absurd adds
+pub fault_is : (end : EndKind) (fault : ScriptFault) → text_fault end ≡ Some fault → end ≡ Refused (refusals.Script fault)
+fault_is (Refused (refusals.Script found)) fault is = cc
+fault_is end fault is = cc
+
+-- a fault of the text, whose line is written behind
+pub fault_told : (o : Outcome) (fault : ScriptFault) (end : EndKind) (past : Past) (old mid new : Option (List ℕ)) → Shows o (Refused (refusals.Script fault)) past old mid
+    → AddsLine (refusals.Script fault) end mid new → Shows (with_last_line o) end past old new
+fault_told o fault WriteFault past old mid new it adds =
+    (([], sym it.1), subst (λ (l : List ℕ). AppendsFront old (o.text ++ l) new) (ap last_line it.0) (front_then old mid new o.text (fault_text (refusals.Script fault)) it.2 adds))
+fault_told o fault NoMemory past old mid new it adds =
+    (([], sym it.1), subst (λ (m : Option (List ℕ)). AppendsFront old (o.text ++ last_line o.end) m) (sym adds) (front_first old mid o.text (last_line o.end) it.2))
+fault_told o fault (Refused r) past old mid new it adds =
+    (ap Refused adds.0 ∙ it.0, it.1, added o (Refused (refusals.Script fault)) (fault_text (refusals.Script fault)) old new it.0 refl (appends_then old mid new o.text (fault_text (refusals.Script fault)) it.2 adds.1))
+fault_told o fault end past old mid new it adds = absurd adds
+
+-- what runs a script
+pub script_shows : (text : List ℕ) (end : ScriptStop) (past : Past) (old new : Option (List ℕ)) → script.Shows (script.shown text) end past old new → Shows (script_run text) (end_of end) past old new
+script_shows text stops.Done past old new it = (ap end_of it.0, it.1, it.2)
+script_shows text (stops.Fault fault) past old new it = (ap end_of it.0, it.1, it.2)
+script_shows text (stops.Chip s) past old new it = (ap end_of it.0, it.1, it.2)
+script_shows text stops.WriteFault past old new it = it
+script_shows text stops.NoMemory past old new it = it
 
 failed : (end : ScriptStop) → end_of end ≡ WriteFault → end ≡ stops.WriteFault
 failed stops.Done is = cc
@@ -63,8 +72,26 @@ failed (stops.Chip s) is = cc
 failed stops.WriteFault is = refl
 failed stops.NoMemory is = cc
 
-pub end_rises : (end : ScriptStop) (before now : ℕ) → RisesOnly (end ≡ stops.WriteFault) before now → RisesOnly (end_of end ≡ WriteFault) before now
-end_rises end before now rises = rises_as before now (failed end) (λ is. ap end_of is) rises
+pub script_rises : (end : ScriptStop) (before now : ℕ) → RisesOnly (end ≡ stops.WriteFault) before now → RisesOnly (end_of end ≡ WriteFault) before now
+script_rises end before now rises = rises_as before now (failed end) (λ is. ap end_of is) rises
+
+-- what judges a trace
+pub judge_shows : (text : List ℕ) (end : JudgeStop) (past : Past) (old new : Option (List ℕ)) → trace.Shows (trace.shown text) end past old new → Shows (judge_run text) (end_of_judge end) past old new
+judge_shows text judges.Done past old new it = (ap end_of_judge it.0, it.1, it.2)
+judge_shows text (judges.Fault fault) past old new it = (ap end_of_judge it.0, it.1, it.2)
+judge_shows text (judges.Judged fault) past old new it = (ap end_of_judge it.0, it.1, it.2)
+judge_shows text judges.WriteFault past old new it = it
+judge_shows text judges.NoMemory past old new it = it
+
+judge_failed : (end : JudgeStop) → end_of_judge end ≡ WriteFault → end ≡ judges.WriteFault
+judge_failed judges.Done is = cc
+judge_failed (judges.Fault fault) is = cc
+judge_failed (judges.Judged fault) is = cc
+judge_failed judges.WriteFault is = refl
+judge_failed judges.NoMemory is = cc
+
+pub judge_rises : (end : JudgeStop) (before now : ℕ) → RisesOnly (end ≡ judges.WriteFault) before now → RisesOnly (end_of_judge end ≡ WriteFault) before now
+judge_rises end before now rises = rises_as before now (judge_failed end) (λ is. ap end_of_judge is) rises
 
 -- nothing yet is a prefix of all
 none_front : (text : List ℕ) (old : Option (List ℕ)) → AppendsFront old text old

@@ -11,7 +11,7 @@ use Rattle.ihex.specs.declared.fault.HexFault.{HexFault}
 use Rattle.ihex.specs.declared.fault.HexKind.{HexKind}
 use Rattle.ihex.specs.declared.fault.HexKind.TheVariants.{AfterEnd, BadStart, BadDigit, BadLength, BadSum, BadType, OutOfFlash, NoEnd}
 use Rattle.wz_board.specs.declared.end.Refusal.{Refusal}
-use Rattle.wz_board.specs.declared.end.Refusal.TheVariants.{Usage, NoFile, ReadFault, TooLong, Hex, Board, Script}
+use Rattle.wz_board.specs.declared.end.Refusal.TheVariants.{Usage, NoFile, ReadFault, TooLong, Hex, Board, Script, Judged}
 use Rattle.wz_board.specs.declared.end.EndKind.{EndKind}
 use Rattle.wz_board.specs.declared.end.EndKind.TheVariants.{Done, Break, Sleep, CycleLimit, Chip, Avr, TraceFull, PollFault, WriteFault, NoMemory, Refused}
 
@@ -32,6 +32,7 @@ status_of PollFault = 9
 status_of CycleLimit = 10
 status_of (Refused (TooLong operand)) = 11
 status_of (Refused (Script fault)) = 14
+status_of (Refused (Judged fault)) = 15
 status_of (Chip s) = 20
 status_of (Avr s) = 20
 
@@ -64,7 +65,7 @@ script_text fault = codes "fault script " ++ script_kind_text fault.kind ++ 32 �
 abbrev pub board_text : BoardFault → List ℕ
 board_text fault = codes "fault board " ++ word fault.key ++ 32 ∷ (decimal fault.entry ++ 32 ∷ (kind_word fault.kind ++ 10 ∷ []))
 
--- The line that a refusal prints; operands count from 1.
+-- The line that a refusal prints; operands count from 1. That of a judged trace is printed as its verdict, and no line is behind it.
 abbrev pub fault_text : Refusal → List ℕ
 fault_text Usage = codes "fault usage\n"
 fault_text (NoFile operand) = codes "fault nofile " ++ (decimal operand ++ 10 ∷ [])
@@ -73,3 +74,4 @@ fault_text (TooLong operand) = codes "fault long " ++ (decimal operand ++ 10 ∷
 fault_text (Hex fault) = hex_text fault
 fault_text (Board fault) = board_text fault
 fault_text (Script fault) = script_text fault
+fault_text (Judged fault) = []

@@ -20,14 +20,19 @@ use Rattle.wz_board.specs.Ends.{fault_text}
 use Rattle.board_list.specs.Listing.{listing}
 use Rattle.wz_board.specs.Checked.{check_text, judged, judged_image}
 use Rattle.wz_board.specs.Reads.{Counts, Reading, WasRead}
-use Rattle.wz_board.specs.Runs.{RanSim, RanTrace}
-use Rattle.wz_board.specs.Words.{Asked, OnText, OnBoard, Help, forms}
+use Rattle.wz_board.specs.Runs.{RanGen, RanSim, RanTrace}
+use Rattle.wz_board.specs.Words.{Asked, OnText, OnBoard, Gen, Help, forms}
 use Rattle.ihex.specs.Text.{fault_in}
 use Rattle.board_file.specs.Boards.{Setup}
+use Rattle.board_gen.specs.declared.fault.ScriptFault.{ScriptFault}
 use Rattle.board_gen.specs.declared.end.ScriptStop.{ScriptStop}
 use Rattle.board_gen.specs.declared.end.ScriptStop.TheVariants as stops
 use Rattle.board_gen.specs.Script.{no_starts}
-use Rattle.board_gen.specs.Shown.{Shown, script_starts, shown}
+use Rattle.board_gen.specs.Shown.{script_starts, shown}
+use Rattle.board_judge.specs.declared.end.JudgeStop.{JudgeStop}
+use Rattle.board_judge.specs.declared.end.JudgeStop.TheVariants as judges
+use Rattle.board_judge.specs.Shown.{trace_starts}
+use Rattle.board_judge.specs.Shown as trace
 
 -- How a command ends, with its history and its text.
 pub record Outcome : Type 0 where
@@ -53,16 +58,49 @@ end_of (stops.Chip s) = Chip s
 end_of stops.WriteFault = WriteFault
 end_of stops.NoMemory = NoMemory
 
--- What is printed behind the text of a script: the line of its fault, if it has one.
-abbrev pub last_line : ScriptStop → List ℕ
-last_line (stops.Fault fault) = fault_text (refusals.Script fault)
-last_line end = []
+-- The fault of the text of a script or a trace by which a command ends.
+abbrev pub text_fault : EndKind → Option ScriptFault
+text_fault (Refused (refusals.Script fault)) = Some fault
+text_fault end = None
+
+abbrev pub line_of : Option ScriptFault → List ℕ
+line_of (Some fault) = fault_text (refusals.Script fault)
+line_of None = []
+
+-- What is printed behind what was written of such a text: the line of the fault, if it has one.
+abbrev pub last_line : EndKind → List ℕ
+last_line end = line_of (text_fault end)
+
+abbrev pub with_last_line : Outcome → Outcome
+with_last_line o = record { end = o.end; starts = o.starts; past = o.past; text = o.text ++ last_line o.end }
+
+-- What running a script comes to.
+abbrev pub script_run : List ℕ → Outcome
+script_run text =
+    let it = shown text in
+    record { end = end_of it.end; starts = script_starts text; past = it.past; text = it.text }
 
 -- What a script comes to.
 abbrev pub script_outcome : List ℕ → Outcome
-script_outcome text =
-    let it = shown text in
-    record { end = end_of it.end; starts = script_starts text; past = it.past; text = it.text ++ last_line it.end }
+script_outcome text = with_last_line (script_run text)
+
+-- The end of a command that the end of a judged trace is.
+abbrev pub end_of_judge : JudgeStop → EndKind
+end_of_judge judges.Done = Done
+end_of_judge (judges.Fault fault) = Refused (refusals.Script fault)
+end_of_judge (judges.Judged fault) = Refused (refusals.Judged fault)
+end_of_judge judges.WriteFault = WriteFault
+end_of_judge judges.NoMemory = NoMemory
+
+-- What judging a trace comes to.
+abbrev pub judge_run : List ℕ → Outcome
+judge_run text =
+    let it = trace.shown text in
+    record { end = end_of_judge it.end; starts = trace_starts text; past = it.past; text = it.text }
+
+-- What a trace comes to.
+abbrev pub judge_outcome : List ℕ → Outcome
+judge_outcome text = with_last_line (judge_run text)
 
 -- What the listing of an image comes to: its lines, or the refusal of its text.
 abbrev pub listed_outcome : Result (List ℕ) Refusal → Outcome
@@ -72,6 +110,7 @@ listed_outcome (Err refusal) = refused refusal
 -- What a command on one file comes to, whose text is this.
 abbrev pub text_outcome : TextCommand → List ℕ → Outcome
 text_outcome texts.Bus text = script_outcome text
+text_outcome texts.Judge text = judge_outcome text
 text_outcome texts.List text = listed_outcome (judged_image text (fault_in text))
 
 -- A command whose operand of this number was not read.
@@ -116,6 +155,7 @@ pub record IsLegal (past : Past) : Type 0 where
 abbrev pub asks_run : Option Asked → Bool
 asks_run (Some (OnBoard boards.Sim image board)) = true
 asks_run (Some (OnBoard boards.Trace image board)) = true
+asks_run (Some (Gen number)) = true
 asks_run form = false
 
 -- What a command without a run leaves, over a sink that had this text and this count of faults before and after: the outcome's end, history and text; a
@@ -166,10 +206,16 @@ pub record ReportsAlone (before after : Counts) (o : Outcome) (r : QuickEnd) (ol
   pub unread : after ≡ before
   pub ran : Ran o r old new faults faults_now
 
+-- A generated run, which reads no file either.
+pub record ReportsGen (before after : Counts) (number : ℕ) (r : QuickEnd) (old new : Option (List ℕ)) (faults faults_now : ℕ) : Type 0 where
+  pub unread : after ≡ before
+  pub ran : RanGen number r old new faults faults_now
+
 -- What the words come to over these files and this sink. Where they are no written form, that is a refusal.
 abbrev pub Reports : Option (List ℕ → Option (List ℕ)) → Counts → Counts → Option Asked → QuickEnd → Option (List ℕ) → Option (List ℕ) → ℕ → ℕ → Type 0
 Reports files before after None r old new faults faults_now = ReportsAlone before after (refused refusals.Usage) r old new faults faults_now
 Reports files before after (Some Help) r old new faults faults_now = ReportsAlone before after (at_rest Done forms) r old new faults faults_now
+Reports files before after (Some (Gen number)) r old new faults faults_now = ReportsGen before after number r old new faults faults_now
 Reports files before after (Some (OnText what name)) r old new faults faults_now =
     ReportsText files before after what name r old new faults faults_now
 Reports files before after (Some (OnBoard what image board)) r old new faults faults_now =

@@ -1,5 +1,5 @@
 -- What a command leaves that runs an image on a board with scripted peers: by the schedule, which is one function of the two.
-use Rattle.std.specs.Prelude.{◌≡◌, ◌⊎◌, ℕ, List, Option, None, Some, IfSome}
+use Rattle.std.specs.Prelude.{◌≡◌, ◌⊎◌, ℕ, List, [], ◌∷◌, Option, None, Some, IfSome}
 use Rattle.chip_sheet.specs.Past.{Past}
 use Rattle.chip_sheet.specs.Legal.{Legal}
 use Rattle.chip_sheet.specs.Streams.{Starts}
@@ -11,6 +11,10 @@ use Rattle.wz_base.specs.Outside.{RisesOnly}
 use Rattle.wz_base.specs.Whole.{Appends, AppendsFront}
 use Rattle.avr_mcu.specs.State.{reset_state}
 use Rattle.board_file.specs.Boards.{Setup}
+use Rattle.link_trait.specs.Routes.{no_routes}
+use Rattle.board_echo.specs.Assembly.{image_of}
+use Rattle.board_echo.specs.Echo.{echo_words}
+use Rattle.board_echo.specs.Generator.{echo_script}
 use Rattle.board_sim.specs.Schedule as schedule
 use Rattle.board_sim.specs.Ends.{fresh_board, outcome, report_text, sim_text, starts_of, traced, StopsAtByte, StopsAtReport, StopsAtTrace}
 use Rattle.board_sim.specs.declared.end.RunEnd.{RunEnd}
@@ -78,6 +82,21 @@ pub record RanTrace (image : List ℕ) (setup : Setup) (r : QuickEnd) (old new :
   pub shows : ShowsRun (StopsAtTrace (outcome image setup) (traced setup (outcome image setup)) r.history.past r.script old new) (outcome image setup) (traced setup (outcome image setup)) r.end r.history.past r.script old new
   pub keeps : KeepsRun setup r before after
   pub firmware : FirmwareEnds image setup
+
+-- The board of a generated run: that of an empty board file, and the peer of this number.
+abbrev pub echo_setup : ℕ → Setup
+echo_setup n = record {
+  tx_start = 0;
+  rx_start = 0;
+  events = 33554432;
+  cycles = 1099511627776;
+  routes = no_routes;
+  peers = echo_script n ∷ [];
+}
+
+-- What `gen` leaves of a number: what `sim` leaves of the echo server and that board.
+abbrev pub RanGen : ℕ → QuickEnd → Option (List ℕ) → Option (List ℕ) → ℕ → ℕ → Type 0
+RanGen n r old new before after = RanSim (image_of echo_words) (echo_setup n) r old new before after
 
 -- The chip allows the history, and scripted peers agree with it: they were given the bytes that it says were taken, and gave those that it
 -- says came.

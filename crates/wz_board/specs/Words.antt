@@ -1,6 +1,7 @@
 -- The words of the command line, those after the program's name.
-use Rattle.std.specs.Prelude.{ℕ, Bool, false, not, ◌==◌, ◌&&◌, List, [], ◌∷◌, Option, None, Some, option_map, codes, if◌then◌else◌}
+use Rattle.std.specs.Prelude.{ℕ, nat_le, Bool, false, not, ◌==◌, ◌&&◌, List, [], ◌∷◌, length, Option, None, Some, option_map, codes, if◌then◌else◌}
 use Rattle.std.specs.Str.{bytes_eq}
+use Rattle.board_read.specs.Numbers.{at_most, number_behind}
 use Rattle.wz_board.specs.declared.words.TextCommand.{TextCommand}
 use Rattle.wz_board.specs.declared.words.TextCommand.TheVariants as text
 use Rattle.wz_board.specs.declared.words.BoardCommand.{BoardCommand}
@@ -8,23 +9,27 @@ use Rattle.wz_board.specs.declared.words.BoardCommand.TheVariants as board
 use Rattle.wz_board.specs.declared.words.Command.{Command}
 use Rattle.wz_board.specs.declared.words.Command.TheVariants as command
 
--- A written form: what is asked of one file, or of an image and a board, each by its name as bytes, or `--help`.
+-- A written form: what is asked of one file, or of an image and a board, each by its name as bytes; a generated run, by its number; or
+-- `--help`.
 pub data Asked : Type 0 where
   OnText : TextCommand → (name : List ℕ) → Asked
   OnBoard : BoardCommand → (image : List ℕ) → (board : List ℕ) → Asked
+  Gen : (number : ℕ) → Asked
   Help : Asked
 
 -- The written form that a command is.
 abbrev pub asked : Command → Asked
 asked (command.OnText what name) = OnText what name.now
 asked (command.OnBoard what image board) = OnBoard what image.now board.now
+asked (command.Gen number) = Gen number
 asked command.Help = Help
 
--- What the first word asks of one file: `bus SCRIPT` or `list HEX`.
+-- What the first word asks of one file: `bus SCRIPT`, `judge TRACE` or `list HEX`.
 abbrev pub text_command : List ℕ → Option TextCommand
 text_command word =
     if bytes_eq word (codes "bus") then Some text.Bus else
-    (if bytes_eq word (codes "list") then Some text.List else None)
+    (if bytes_eq word (codes "judge") then Some text.Judge else
+    (if bytes_eq word (codes "list") then Some text.List else None))
 
 -- What the first word asks of an image and a board: `sim HEX BOARD`, `trace HEX BOARD` or `check HEX BOARD`.
 abbrev pub board_command : List ℕ → Option BoardCommand
@@ -45,14 +50,22 @@ abbrev pub on_board : List ℕ → List ℕ → List ℕ → Option Asked
 on_board word image board =
     if is_operand image && is_operand board then option_map (λ what. OnBoard what image board) (board_command word) else None
 
+-- The number that a word writes: one to twenty digits of at most 2^64 - 1. It may begin with zeros.
+abbrev pub number : List ℕ → Option ℕ
+number word = if nat_le 1 (length word) && nat_le (length word) 20 then at_most 18446744073709551615 (number_behind 0 word) else None
+
+-- What two words are: `gen N`, or a command on one file.
+abbrev pub two_words : List ℕ → List ℕ → Option Asked
+two_words word operand = if bytes_eq word (codes "gen") then option_map Gen (number operand) else on_text word operand
+
 -- The written form that the words are. All else is none.
 abbrev pub command_of : List (List ℕ) → Option Asked
 command_of [] = None
 command_of (word ∷ []) = if bytes_eq word (codes "--help") then Some Help else None
-command_of (word ∷ name ∷ []) = on_text word name
+command_of (word ∷ operand ∷ []) = two_words word operand
 command_of (word ∷ image ∷ board ∷ []) = on_board word image board
 command_of (a ∷ b ∷ c ∷ d ∷ more) = None
 
 -- What `--help` prints: each written form that is built, on a line of its own.
 abbrev pub forms : List ℕ
-forms = codes "sim HEX BOARD\ntrace HEX BOARD\ncheck HEX BOARD\nbus SCRIPT\nlist HEX\n--help\n"
+forms = codes "sim HEX BOARD\ntrace HEX BOARD\ncheck HEX BOARD\nbus SCRIPT\njudge TRACE\nlist HEX\ngen N\n--help\n"

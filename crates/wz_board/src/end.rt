@@ -5,6 +5,7 @@ ghost use Rattle.wz_board.specs.Ends.{board_text, fault_text, hex_text, kind_tex
 use avr_core::AvrStop;
 use board_file::BoardFault;
 use board_gen::{ScriptFault, ScriptKind};
+use board_judge::JudgeFault;
 use chip_hist::history::History;
 use chip_sheet::stop::ChipStop;
 use ihex::{HexFault, HexKind};
@@ -35,8 +36,10 @@ pub enum Refusal {
     Hex(HexFault),
     /// The text is no board file.
     Board(BoardFault),
-    /// The text is no script, or a link event in it does not fit.
+    /// The text is no script, or a link event in it does not fit; or it is no trace.
     Script(ScriptFault),
+    /// The history of a trace is one that the datasheet does not allow.
+    Judged(JudgeFault),
 }
 
 /// How a command ended.
@@ -73,7 +76,7 @@ pub struct QuickEnd {
     pub status: u8,
     /// What happened on the chip's bus and its links, empty where the command made no event.
     pub history: History,
-    /// The scripted peers of a `sim` or a `trace`, where they were made.
+    /// The scripted peers of a `sim`, a `trace` or a `gen`, where they were made.
     pub script: Option<ScriptLinks>,
     /// How the command ended.
     pub end: EndKind,
@@ -97,6 +100,7 @@ pub fn status_of(end: EndKind) -> u8
         EndKind::CycleLimit => 10,
         EndKind::Refused(Refusal::TooLong { .. }) => 11,
         EndKind::Refused(Refusal::Script(_)) => 14,
+        EndKind::Refused(Refusal::Judged(_)) => 15,
         EndKind::Chip(_) | EndKind::Avr(_) => 20,
     }
 }
@@ -104,7 +108,7 @@ pub fn status_of(end: EndKind) -> u8
 /// The line of words that are no written form.
 pub const USAGE: &str = "fault usage\n";
 
-/// The line that a refusal prints.
+/// The line that a refusal prints. That of a judged trace is printed as its verdict, and nothing here.
 ///
 /// # Errors
 ///
@@ -120,6 +124,7 @@ pub fn fault_text(alloc: Global, refusal: Refusal) -> Result<String, AllocError>
         Refusal::Hex(fault) => hex_text(alloc, fault),
         Refusal::Board(fault) => board_text(alloc, fault),
         Refusal::Script(fault) => script_text(alloc, fault),
+        Refusal::Judged(_) => Ok(String::new(alloc)),
     }
 }
 

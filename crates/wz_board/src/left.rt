@@ -1,11 +1,12 @@
 //! What a command leaves that ends at once, or with the line of a refusal.
-ghost use Rattle.std.specs.Prelude.{◌≡◌, ◌⊎◌, []};
+ghost use Rattle.std.specs.Prelude.{◌≡◌, ◌⊎◌, ℕ, List, [], Option};
 ghost use Rattle.wz_base.specs.Outside.{RisesOnly};
 ghost use Rattle.board_gen.specs.Script.{no_starts};
 ghost use Rattle.chip_sheet.specs.Legal.{Legal};
-ghost use Rattle.wz_board.specs.Outcome.{refused, unread, AddsLine, Ran};
+ghost use Rattle.wz_board.specs.Outcome.{refused, text_fault, unread, with_last_line, AddsLine, Outcome, Ran, Shows};
 
 use crate::end::{EndKind, QuickEnd, Refusal, USAGE, fault_text, status_of};
+use board_gen::ScriptFault;
 use chip_hist::history::History;
 use std::alloc::{AllocError, Global};
 use wz_base::{ReadError, Sink, WriteError, write_all};
@@ -55,6 +56,29 @@ pub fn end_refused<K: Sink>(
             Err(WriteError::WriteFault) => ended(EndKind::WriteFault, history),
         },
         Err(AllocError) => ended(EndKind::NoMemory, history),
+    }
+}
+
+/// The fault of a text by which a command ends.
+fn text_fault(end: EndKind) -> Option<ScriptFault>
+    ensures { result ≡ text_fault end }
+{
+    match end {
+        EndKind::Refused(Refusal::Script(fault)) => Some(fault),
+        _ => None,
+    }
+}
+
+/// Ends a command that ran a text and ended so: behind what it wrote comes the line of the text's fault, if it has one.
+pub fn end_told<K: Sink>(alloc: Global, end: EndKind, history: History, out: &mut K) -> QuickEnd
+    ensures shows { (o : Outcome) (old : Option (List ℕ)) → Shows o end history.past old (K.written out.old) → Shows (with_last_line o) result.end result.history.past old (K.written out.new) }
+    ensures past { result.history.past ≡ history.past }
+    ensures script { result.script ≡ None }
+    ensures causes { (before : ℕ) → RisesOnly (end ≡ EndKind.WriteFault) before (K.faults out.old) → RisesOnly (result.end ≡ EndKind.WriteFault) before (K.faults out.new) }
+{
+    match text_fault(end) {
+        Some(fault) => end_refused(alloc, Refusal::Script(fault), history, out),
+        None => ended(end, history),
     }
 }
 

@@ -1,6 +1,7 @@
 //! The board runner's program: `sim HEX BOARD` runs a firmware image on a board with scripted peers, and prints what it prints and a
 //! report; `trace HEX BOARD` prints the trace of that run; `check HEX BOARD` judges an image and a board; `bus SCRIPT` runs a bus script
-//! against the chip and prints what the chip answers; `list HEX` lists the instructions of an image; `--help` prints these forms.
+//! against the chip and prints what the chip answers; `judge TRACE` judges the history of a trace; `list HEX` lists the instructions of
+//! an image; `gen N` runs the firmware of an echo server with the peer of a number; `--help` prints these forms.
 #![tactic(auto)]
 
 mod boards;

@@ -11,6 +11,7 @@ use crate::boards::on_board;
 use crate::end::{EndKind, QuickEnd, Refusal};
 use crate::left::{refuse_words, unread};
 use crate::reading::read_operand;
+use crate::runs::run_echo;
 use crate::texts::{help, on_text};
 use crate::words::{BoardCommand, Command, TextCommand, command_of};
 use std::alloc::Global;
@@ -64,6 +65,7 @@ fn run_command<F: Files, K: Sink>(
     match *command {
         Command::OnText { what, name } => run_text(alloc, what, name, files, out),
         Command::OnBoard { what, image, board } => run_board(alloc, what, image, board, files, out),
+        Command::Gen { number } => run_echo(alloc, number, out),
         Command::Help => help(alloc, out),
     }
 }
@@ -91,12 +93,12 @@ fn run_words<F: Files, K: Sink>(
 ///
 /// `Usage` exactly where the words are no written form. `NoFile`, `ReadFault` and `TooLong` of an operand, each by its cause; the
 /// second operand is read only where the first was. `Hex`, `Board` and `Script` exactly by the first fault of the text, that of an
-/// image before that of a board; a script's text is found faulty before anything runs, but for a link event that does not fit.
-/// `Chip` of a script exactly where an event of it has that stop. `Break`, `Sleep`, `CycleLimit`, `Avr`, `Chip` and `TraceFull` of a run
-/// exactly as the schedule of the image on the board ends, which is one function of both. `WriteFault` exactly where the sink's count of
-/// faults rose; then what was written is a prefix of the text, and the history a prefix of the whole history: where a serial byte of a
-/// run failed, that up to the step that printed it. `NoMemory` may come at any time, behind a prefix of the text. `PollFault` never
-/// comes.
+/// image before that of a board; a script's text is found faulty before anything runs, but for a link event that does not fit, and a
+/// trace's before anything is judged. `Judged` exactly at the first event of a trace that the datasheet does not allow. `Chip` of a
+/// script exactly where an event of it has that stop. `Break`, `Sleep`, `CycleLimit`, `Avr`, `Chip` and `TraceFull` of a run exactly as
+/// the schedule of the image on the board ends, which is one function of both. `WriteFault` exactly where the sink's count of faults
+/// rose; then what was written is a prefix of the text, and the history a prefix of the whole history: where a serial byte of a run
+/// failed, that up to the step that printed it. `NoMemory` may come at any time, behind a prefix of the text. `PollFault` never comes.
 pub fn quick<F: Files, K: Sink>(
     alloc: Global,
     words: &[String],

@@ -1,14 +1,17 @@
 //! Commands that run a firmware image on a board with scripted peers.
-ghost use Rattle.std.specs.Prelude.{◌≡◌};
+ghost use Rattle.std.specs.Prelude.{◌≡◌, IfOk};
 ghost use Rattle.board_file.specs.Boards.{IsWithinLimits};
-ghost use Rattle.wz_board.specs.Runs.{end_of_run, RanSim, RanTrace};
+ghost use Rattle.wz_board.specs.Runs.{echo_setup, end_of_run, RanGen, RanSim, RanTrace};
 
 use crate::end::{EndKind, QuickEnd, status_of};
+use crate::left::nothing_ran;
+use board_echo::{echo_image, echo_peer};
 use board_file::Board;
 use board_sim::end::{RunEnd, SimEnd};
 use board_sim::runs;
 use flash::Image;
-use std::alloc::Global;
+use link_trait::Routes;
+use std::alloc::{AllocError, Global};
 use wz_base::Sink;
 
 /// How a command ends whose run ended so: by the same name.
@@ -57,4 +60,33 @@ pub fn trace<K: Sink>(alloc: Global, image: Image, board: Board, out: &mut K) ->
     ensures { RanTrace image board result (K.written out.old) (K.written out.new) (K.faults out.old) (K.faults out.new) }
 {
     left_by(runs::trace(alloc, image, board, out))
+}
+
+/// The board of a generated run: the defaults, and the peer of this number.
+fn echo_board(alloc: Global, number: u64) -> Result<Board, AllocError>
+    ensures { IfOk result (λ board. board ≡ echo_setup number) }
+{
+    let mut peers = Vec::new(alloc);
+    peers.push(echo_peer(alloc, number)?)?;
+    Ok(Board {
+        tx_start: 0,
+        rx_start: 0,
+        events: 33_554_432,
+        cycles: 1_099_511_627_776,
+        routes: Routes::new(alloc),
+        peers,
+    })
+}
+
+/// Runs the firmware of the echo server with the peer of this number, as [`sim`] does.
+pub fn run_echo<K: Sink>(alloc: Global, number: u64, out: &mut K) -> QuickEnd
+    ensures { RanGen number result (K.written out.old) (K.written out.new) (K.faults out.old) (K.faults out.new) }
+{
+    match echo_image(alloc) {
+        Ok(image) => match echo_board(alloc, number) {
+            Ok(board) => sim(alloc, image, board, out),
+            Err(AllocError) => nothing_ran(alloc, EndKind::NoMemory),
+        },
+        Err(AllocError) => nothing_ran(alloc, EndKind::NoMemory),
+    }
 }

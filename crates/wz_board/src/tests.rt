@@ -250,29 +250,54 @@ fn runs_scripts_of_sockets(rt: HostRuntime) -> Result<(), Fail> {
 }
 
 #[test]
-fn lists_images(rt: HostRuntime) -> Result<(), Fail> {
-    for (hex, shown, status) in [
-        (":020000009895D1\n:00000001FF\n", "0000: 9598 break\n", 0),
+fn lists_images_and_judges_traces(rt: HostRuntime) -> Result<(), Fail> {
+    for (command, text, shown, status) in [
+        ("list", BREAK, "0000: 9598 break\n", 0),
         (
+            "list",
             ":080000000C943400FFFF00C066\r\n:00000001FF",
             "0000: 940C 0034 jmp 0x000034\n0002: FFFF .word\n0003: C000 rjmp +0\n",
             0,
         ),
-        (":00000001FF\n", "", 0),
-        (":020000009895D2\n:00000001FF\n", "fault hex BadSum 1\n", 3),
-        ("", "fault hex NoEnd 0\n", 3),
+        ("list", ":00000001FF\n", "", 0),
+        (
+            "list",
+            ":020000009895D2\n:00000001FF\n",
+            "fault hex BadSum 1\n",
+            3,
+        ),
+        ("list", "", "fault hex NoEnd 0\n", 3),
+        (
+            "judge",
+            "w5500 trace 1 0 0\nL\n00>00\n39>00\n00>00\n00>04\nH\n",
+            "legal 6\n",
+            0,
+        ),
+        (
+            "judge",
+            "w5500 trace 1 0 0\nL\n00>00\n39>00\n00>00\n00>05\nH\n",
+            "differs 4 04 05\n",
+            15,
+        ),
+        ("judge", "", "fault script BadHead 1\n", 14),
+        (
+            "judge",
+            "w5500 trace 1 0 0\nL\n\n",
+            "fault script BadToken 3\n",
+            14,
+        ),
     ] {
         let mut out = Vec::new(rt.alloc());
-        let bytes = hex.as_bytes().to_vec(rt.alloc())?;
+        let bytes = text.as_bytes().to_vec(rt.alloc())?;
         let ended = run(
             rt.alloc(),
-            &["list", "s"],
+            &[command, "s"],
             one_file(rt.alloc(), bytes)?,
             (&[], &[]),
             &mut out,
         )?;
-        assert_eq!(rt; out.as_slice(), shown.as_bytes(), "{hex}");
-        assert_eq!(rt; ended.map(|e| e.status), Some(status), "{hex}");
+        assert_eq!(rt; out.as_slice(), shown.as_bytes(), "{text}");
+        assert_eq!(rt; ended.map(|e| e.status), Some(status), "{text}");
     }
     Ok(())
 }
@@ -429,6 +454,33 @@ fn stops_a_run_at_a_failed_write(rt: HostRuntime) -> Result<(), Fail> {
 }
 
 #[test]
+fn runs_the_echo_server(rt: HostRuntime) -> Result<(), Fail> {
+    // A number may begin with zeros. The report is written at once.
+    let first =
+        "== end break\n== cycles 77676\n== bus 5823\n== link 12\n== socket 0 00 1 1000 1000 1000\n== faults 0\n";
+    let seventh =
+        "== end break\n== cycles 78004\n== bus 5843\n== link 13\n== socket 0 00 1 1007 1007 1007\n== faults 0\n";
+    for (number, failing, shown, status) in [
+        ("0", 0, first, 0),
+        ("007", 0, seventh, 0),
+        ("0", 1, "", 6),
+    ] {
+        let mut out = Vec::new(rt.alloc());
+        let ended = run(
+            rt.alloc(),
+            &["gen", number],
+            Vec::new(rt.alloc()),
+            (&[1], &[failing]),
+            &mut out,
+        )?;
+        assert_eq!(rt; out.as_slice(), shown.as_bytes(), "{number}");
+        let left = ended.map(|e| (e.status, e.script.is_some()));
+        assert_eq!(rt; left, Some((status, true)), "{number}");
+    }
+    Ok(())
+}
+
+#[test]
 fn prints_the_written_forms(rt: HostRuntime) -> Result<(), Fail> {
     let mut out = Vec::new(rt.alloc());
     let ended = run(
@@ -438,7 +490,8 @@ fn prints_the_written_forms(rt: HostRuntime) -> Result<(), Fail> {
         (&[1], &[]),
         &mut out,
     )?;
-    let forms = "sim HEX BOARD\ntrace HEX BOARD\ncheck HEX BOARD\nbus SCRIPT\nlist HEX\n--help\n";
+    let forms =
+        "sim HEX BOARD\ntrace HEX BOARD\ncheck HEX BOARD\nbus SCRIPT\njudge TRACE\nlist HEX\ngen N\n--help\n";
     assert_eq!(rt; out.as_slice(), forms.as_bytes());
     assert_eq!(rt; ended.map(|e| (e.status, e.end)), Some((0, EndKind::Done)));
     Ok(())
@@ -458,7 +511,7 @@ fn refused(
 
 #[test]
 fn refuses(rt: HostRuntime) -> Result<(), Fail> {
-    let rows: [(&[&str], u64, &str, Refusal); 15] = [
+    let rows: [(&[&str], u64, &str, Refusal); 18] = [
         (
             &["bus", "t"],
             0,
@@ -472,6 +525,19 @@ fn refuses(rt: HostRuntime) -> Result<(), Fail> {
         (&["--help", "s"], 0, "fault usage\n", Refusal::Usage),
         (&["check", "x"], 0, "fault usage\n", Refusal::Usage),
         (&["check", "x", "-s"], 0, "fault usage\n", Refusal::Usage),
+        (
+            &["gen", "18446744073709551616"],
+            0,
+            "fault usage\n",
+            Refusal::Usage,
+        ),
+        (
+            &["gen", "000000000000000000000"],
+            0,
+            "fault usage\n",
+            Refusal::Usage,
+        ),
+        (&["gen", "1 "], 0, "fault usage\n", Refusal::Usage),
         (
             &["bus", "s"],
             1,

@@ -4,12 +4,13 @@ ghost use Rattle.ihex.specs.Text.{fault_in};
 ghost use Rattle.wz_board.specs.Words.{forms};
 ghost use Rattle.wz_board.specs.declared.reading.TheConstants.{TEXT_LIMIT};
 ghost use Rattle.wz_board.specs.Checked.{judged_image};
-ghost use Rattle.wz_board.specs.Outcome.{at_rest, end_of, listed_outcome, script_outcome, text_outcome, Ran};
+ghost use Rattle.wz_board.specs.Outcome.{at_rest, end_of, end_of_judge, judge_outcome, listed_outcome, script_outcome, text_outcome, Ran};
 
 use crate::end::{EndKind, QuickEnd, Refusal};
-use crate::left::{end_refused, ended, nothing_ran, refuse};
+use crate::left::{end_told, nothing_ran, refuse};
 use crate::words::TextCommand;
 use board_gen::{ScriptStop, script};
+use board_judge::{JudgeStop, judge};
 use board_list::list;
 use ihex::{HexError, load};
 use std::alloc::{AllocError, Global};
@@ -17,7 +18,7 @@ use wz_base::{LineBuffer, Sink, WriteError, write_all};
 
 /// The written forms, each on a line of its own.
 const FORMS: &str =
-    "sim HEX BOARD\ntrace HEX BOARD\ncheck HEX BOARD\nbus SCRIPT\nlist HEX\n--help\n";
+    "sim HEX BOARD\ntrace HEX BOARD\ncheck HEX BOARD\nbus SCRIPT\njudge TRACE\nlist HEX\ngen N\n--help\n";
 
 /// Prints the written forms.
 pub fn help<K: Sink>(alloc: Global, out: &mut K) -> QuickEnd
@@ -48,10 +49,29 @@ fn run_script<K: Sink>(alloc: Global, text: &[u8], out: &mut K) -> QuickEnd
     ensures { Ran (script_outcome text.now) result (K.written out.old) (K.written out.new) (K.faults out.old) (K.faults out.new) }
 {
     let ran = script(alloc, text, out);
-    match ran.end {
-        ScriptStop::Fault(fault) => end_refused(alloc, Refusal::Script(fault), ran.history, out),
-        end => ended(end_of(end), ran.history),
+    end_told(alloc, end_of(ran.end), ran.history, out)
+}
+
+/// How a command ends that judged a trace.
+fn end_of_judge(end: JudgeStop) -> EndKind
+    ensures { result ≡ end_of_judge end }
+{
+    match end {
+        JudgeStop::Done => EndKind::Done,
+        JudgeStop::Fault(fault) => EndKind::Refused(Refusal::Script(fault)),
+        JudgeStop::Judged(fault) => EndKind::Refused(Refusal::Judged(fault)),
+        JudgeStop::WriteFault => EndKind::WriteFault,
+        JudgeStop::NoMemory => EndKind::NoMemory,
     }
+}
+
+/// Judges the text of a trace.
+fn judge_trace<K: Sink>(alloc: Global, text: &[u8], out: &mut K) -> QuickEnd
+    requires { length text.now ≤ TEXT_LIMIT }
+    ensures { Ran (judge_outcome text.now) result (K.written out.old) (K.written out.new) (K.faults out.old) (K.faults out.new) }
+{
+    let judged = judge(alloc, text, out);
+    end_told(alloc, end_of_judge(judged.end), judged.history, out)
 }
 
 /// Lists the image of an Intel HEX text, with the room in which lines are gathered.
@@ -88,6 +108,7 @@ pub fn on_text<K: Sink>(alloc: Global, what: TextCommand, text: &[u8], out: &mut
 {
     match what {
         TextCommand::Bus => run_script(alloc, text, out),
+        TextCommand::Judge => judge_trace(alloc, text, out),
         TextCommand::List => list_text(alloc, text, out),
     }
 }

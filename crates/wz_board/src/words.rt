@@ -1,12 +1,14 @@
 //! The words of the command line.
 ghost use Rattle.std.specs.Prelude.{◌≡◌, map, string_bytes, option_map};
-ghost use Rattle.wz_board.specs.Words.{asked, board_command, command_of, is_operand, on_board, on_text, text_command};
+ghost use Rattle.wz_board.specs.Words.{asked, board_command, command_of, is_operand, number, on_board, on_text, text_command, two_words};
 
 /// What is asked of one text.
 #[derive(Clone, Copy, Debug, PartialEq, Eq)]
 pub enum TextCommand {
     /// `bus SCRIPT`: runs a bus script.
     Bus,
+    /// `judge TRACE`: judges the history of a trace.
+    Judge,
     /// `list HEX`: lists the instructions of an Intel HEX text.
     List,
 }
@@ -41,6 +43,11 @@ pub enum Command<'a> {
         /// The name of the board's file.
         board: &'a str,
     },
+    /// `gen N`: runs the echo server with the peer of a number.
+    Gen {
+        /// The peer's number.
+        number: u64,
+    },
     /// `--help`: prints the written forms.
     Help,
 }
@@ -51,6 +58,7 @@ fn text_command(word: &str) -> Option<TextCommand>
 {
     match word {
         "bus" => Some(TextCommand::Bus),
+        "judge" => Some(TextCommand::Judge),
         "list" => Some(TextCommand::List),
         _ => None,
     }
@@ -88,6 +96,40 @@ fn on_text<'a>(word: &str, name: &'a str) -> Option<Command<'a>>
     }
 }
 
+/// The number that a word writes: one to twenty digits of at most 18446744073709551615.
+fn number(word: &str) -> Option<u64>
+    ensures { result ≡ number word.now }
+{
+    let digits = word.as_bytes();
+    if digits.is_empty() || digits.len() > 20 {
+        return None;
+    }
+    let mut value: u128 = 0;
+    for digit in digits {
+        if *digit < b'0' || *digit > b'9' {
+            return None;
+        }
+        value = value * 10 + u128::from(*digit - b'0');
+    }
+    if value > 18_446_744_073_709_551_615 {
+        return None;
+    }
+    Some(value as u64)
+}
+
+/// The command that two words are, if they are one.
+fn two_words<'a>(word: &str, operand: &'a str) -> Option<Command<'a>>
+    ensures { option_map asked result ≡ two_words word.now operand.now }
+{
+    match word {
+        "gen" => match number(operand) {
+            Some(number) => Some(Command::Gen { number }),
+            None => None,
+        },
+        _ => on_text(word, operand),
+    }
+}
+
 /// The command on an image and a board that three words are, if they are one.
 fn on_board<'a>(word: &str, image: &'a str, board: &'a str) -> Option<Command<'a>>
     ensures { option_map asked result ≡ on_board word.now image.now board.now }
@@ -107,7 +149,7 @@ pub fn command_of(words: &[String]) -> Option<Command<'_>>
 {
     match words {
         [word] if word.as_str() == "--help" => Some(Command::Help),
-        [word, name] => on_text(word.as_str(), name.as_str()),
+        [word, operand] => two_words(word.as_str(), operand.as_str()),
         [word, image, board] => on_board(word.as_str(), image.as_str(), board.as_str()),
         _ => None,
     }
