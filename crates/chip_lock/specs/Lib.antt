@@ -1,0 +1,4 @@
+pub mod Overs
+pub mod Standing
+pub mod Turns
+pub mod Passes
