@@ -7,4 +7,6 @@
 
 mod kept;
 pub mod over;
+#[cfg(test)]
+mod tests;
 pub mod turn;
