@@ -1,5 +1,5 @@
 -- How serving the links ends.
-use Rattle.std.specs.Prelude.{◌≡◌, ℕ, ◌<◌, ◌⊎◌, Result, Err}
+use Rattle.std.specs.Prelude.{◌≡◌, ℕ, ◌<◌, ◌⊎◌, Err}
 use Rattle.wz_base.specs.Outside.{Rose}
 use Rattle.chip_sheet.specs.LinkAnswers.{LinkAnswer}
 use Rattle.link_trait.specs.Calls.{Call}

@@ -60,7 +60,7 @@ fn serves_until_a_wait_fails_or_the_turns_are_over(rt: HostRuntime) {
     for (fails, connects, ends, want, steps, first, len) in [
         (1, false, false, Over::PollFault, 1, 0, 3),
         (3, false, false, Over::PollFault, 3, 0, 5),
-        (2, true, false, Over::PollFault, 6, 36, 44),
+        (1, true, false, Over::PollFault, 3, 36, 41),
         (1, true, true, Over::Finished, 0, 36, 38),
     ] {
         let chip = Chip::new(alloc, 0, 0).expect(&rt, "memory");
