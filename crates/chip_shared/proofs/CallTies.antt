@@ -1,36 +1,32 @@
 -- What ties links to a history holds with the entry that a call brings.
-use Rattle.std.proofs.Common.{◌≡◌, ◌≤◌, ◌<◌, ℕ, ◌+◌, ◌-◌, ◌/◌, zero, suc, Bool, true, false, not, ◌&&◌, ◌||◌, cond, eqb, ltb, leb, List, [], ◌∷◌, ◌++◌, append-nil, append_assoc, length, length-append, take, drop, Option, None, Some, inl, inr, refl, sym, ap, ◌∙◌, subst, arith, ◌⊎◌}
+use Rattle.std.proofs.Common.{◌≡◌, ◌≤◌, ◌<◌, ℕ, ◌+◌, ◌-◌, Bool, true, false, ◌&&◌, ◌||◌, eqb, leb, List, [], ◌∷◌, ◌++◌, append-nil, length, length-append, take, drop, refl, sym, ap, ◌∙◌, arith}
 use Rattle.std.proofs.lemmas.List.{take-append-drop}
-use Rattle.std.proofs.lemmas.Bool.{cases_Bool, cond-true, cond-false, eq-eqb, and_parts, or_left, or_right, leb-true, false≢true}
+use Rattle.std.proofs.lemmas.Bool.{cond-true, cond-false, eq-eqb, and_parts, leb-true, false≢true}
 use Rattle.chip_sheet.specs.declared.event.Addr.{Addr}
-use Rattle.chip_sheet.specs.declared.event.ConnId.{ConnId}
-use Rattle.chip_sheet.specs.declared.event.Entry.{Entry}
-use Rattle.chip_sheet.specs.declared.event.Entry.TheVariants.{Bus, Link, Rest}
+use Rattle.chip_sheet.specs.declared.event.Entry.TheVariants.{Link, Rest}
 use Rattle.chip_sheet.specs.declared.event.LinkEntry.{LinkEntry}
 use Rattle.chip_sheet.specs.declared.event.LinkEntry.TheVariants as what
 use Rattle.chip_sheet.specs.declared.socket.Status.{Status}
 use Rattle.chip_sheet.specs.declared.socket.Status.TheVariants.{Udp}
-use Rattle.chip_sheet.specs.declared.socket.Cause.TheVariants as because
 use Rattle.chip_sheet.specs.declared.socket.Due.{Due}
 use Rattle.chip_sheet.specs.declared.socket.Due.TheVariants as due
 use Rattle.chip_sheet.specs.Past.{Past}
-use Rattle.chip_sheet.specs.Life.{life, is_udp, cause, happening, status, lives, old}
+use Rattle.chip_sheet.specs.Life.{life, is_udp, cause, status, lives, old}
 use Rattle.chip_sheet.specs.Streams.{Starts, is_of, is_made, makes, is_open, sent, taken, taken_by, supplied, bytes_of, destinations}
 use Rattle.chip_sheet.specs.Windows.{flight, in_flight, offered, offered_length, room_length}
-use Rattle.chip_sheet.specs.LinkCalls.{connection, kept_address, one_to}
+use Rattle.chip_sheet.specs.LinkCalls.{connection, kept_address}
 use Rattle.chip_sheet.specs.LinkAnswers.{LinkAnswer, Done, DoneFrom, DoneWith, DoneBytes, DoneDatagram, NotYet, Refused, TimedOut, End, Failed, entry_by, may_answer}
 use Rattle.chip_sheet.specs.Legal.{Legal}
 use Rattle.chip_sheet.proofs.SentLaws.{sent_same}
-use Rattle.chip_sheet.proofs.Within.{taken_within, both_same}
+use Rattle.chip_sheet.proofs.Within.{taken_within}
 use Rattle.chip_sheet.proofs.AnswerLaws.{given_goes_on}
 use Rattle.chip_sheet.proofs.MadeLaws.{udp_not_made, open_made}
-use Rattle.link_trait.specs.Calls.{Call}
 use Rattle.link_trait.specs.Shown.{gives, gets, addresses}
 use Rattle.chip_shared.specs.Tied.{takes, times_taken}
 use Rattle.chip_shared.specs.Calling.{call_of}
 use Rattle.chip_shared.proofs.DueFacts.{Says}
 use Rattle.chip_shared.proofs.Destination.{no_link_sends, destinations_same, addressed, udp_open}
-use Rattle.chip_shared.proofs.Datagrams.{Counted, counted}
+use Rattle.chip_shared.proofs.Datagrams.{counted}
 
 -- The lists of one connection agree with a history.
 pub record At (starts : Starts) (past : Past) (n life : ℕ) (given fed : List ℕ) (dests : List Addr) : Type 0 where

@@ -1,7 +1,7 @@
 -- How many destinations the present life of a UDP socket has: one for each datagram that the link took, and one more while one is in
 -- flight.
-use Rattle.std.proofs.Common.{◌≡◌, ◌≤◌, ◌<◌, ℕ, ◌+◌, ◌-◌, ◌/◌, zero, suc, Bool, true, false, not, ◌&&◌, ◌||◌, cond, eqb, ltb, List, [], ◌∷◌, ◌++◌, length, length-append, Option, None, inl, inr, refl, sym, ap, ◌∙◌, subst, arith, ◌⊎◌}
-use Rattle.std.proofs.lemmas.Bool.{cases_Bool, cond-true, cond-false, eq-eqb, ne_eqb, and_left, and_right, or_cases, false≢true}
+use Rattle.std.proofs.Common.{◌≡◌, ◌≤◌, ◌<◌, ℕ, ◌+◌, ◌-◌, Bool, true, false, not, ◌&&◌, cond, eqb, List, [], ◌∷◌, ◌++◌, length, length-append, Option, inl, inr, refl, sym, ap, ◌∙◌, subst, arith}
+use Rattle.std.proofs.lemmas.Bool.{cond-true, cond-false, eq-eqb, ne_eqb, and_right, or_cases, false≢true}
 use Rattle.board_bus.specs.declared.event.BusEvent.{BusEvent}
 use Rattle.board_bus.specs.declared.event.BusAnswer.{BusAnswer}
 use Rattle.chip_sheet.specs.declared.event.Addr.{Addr}
@@ -17,7 +17,7 @@ use Rattle.chip_sheet.specs.declared.socket.Cause.TheVariants as because
 use Rattle.chip_sheet.specs.declared.socket.Due.{Due}
 use Rattle.chip_sheet.specs.declared.socket.Due.TheVariants as due
 use Rattle.chip_sheet.specs.Past.{Past}
-use Rattle.chip_sheet.specs.Life.{life, is_udp, cause, happening, status, lives, old}
+use Rattle.chip_sheet.specs.Life.{life, is_udp, cause, status, lives, old}
 use Rattle.chip_sheet.specs.Peers.{destination}
 use Rattle.chip_sheet.specs.Streams.{Starts, is_of, is_open, sent, range, range_length, sends_datagram, destinations, destinations_by, taken, taken_by, tx_byte}
 use Rattle.chip_sheet.specs.Windows.{flight, rx_free}

@@ -1,13 +1,13 @@
 -- The datagram in flight goes to the kept address.
-use Rattle.std.proofs.Common.{◌≡◌, ◌≤◌, ◌<◌, ℕ, ◌+◌, ◌-◌, zero, suc, Bool, true, false, not, ◌&&◌, cond, eqb, ltb, List, [], ◌∷◌, ◌++◌, length, length-append, None, inl, inr, refl, sym, ap, ◌∙◌, subst, arith, ◌⊎◌}
-use Rattle.std.proofs.lemmas.Bool.{cases_Bool, cond-true, cond-false, cond_both, eq-eqb, ltb-false, ne_eqb, false≢true}
+use Rattle.std.proofs.Common.{◌≡◌, ◌≤◌, ◌<◌, ℕ, ◌+◌, ◌-◌, zero, suc, Bool, true, false, not, ◌&&◌, cond, eqb, ltb, List, [], ◌∷◌, ◌++◌, length, length-append, inl, inr, refl, sym, ap, ◌∙◌, subst, arith, ◌⊎◌}
+use Rattle.std.proofs.lemmas.Bool.{cond-true, cond-false, cond_both, eq-eqb, ltb-false, ne_eqb}
 use Rattle.chip_sheet.specs.declared.event.Addr.{Addr}
 use Rattle.chip_sheet.specs.declared.event.Entry.{Entry}
 use Rattle.chip_sheet.specs.declared.event.Entry.TheVariants.{Bus, Link, Rest}
 use Rattle.chip_sheet.specs.declared.event.LinkEntry.{LinkEntry}
 use Rattle.chip_sheet.specs.declared.event.LinkEntry.TheVariants.{Linked}
 use Rattle.chip_sheet.specs.declared.socket.Status.{Status}
-use Rattle.chip_sheet.specs.declared.socket.Status.TheVariants.{Closed, Init, Udp}
+use Rattle.chip_sheet.specs.declared.socket.Status.TheVariants.{Init, Udp}
 use Rattle.chip_sheet.specs.declared.socket.Cause.{Cause}
 use Rattle.chip_sheet.specs.declared.socket.Cause.TheVariants as because
 use Rattle.chip_sheet.specs.declared.stop.ChipStop.TheVariants.{SendBusy}
@@ -16,7 +16,7 @@ use Rattle.chip_sheet.specs.Frames.{access}
 use Rattle.chip_sheet.specs.Life.{Life, life, life_after, lives_on, new_life, next, facts_of, begins, is_udp, cause, happening, status, lives}
 use Rattle.chip_sheet.specs.Peers.{destination}
 use Rattle.chip_sheet.specs.Sending.{bytes_from}
-use Rattle.chip_sheet.specs.Streams.{Starts, is_of, is_open, sends, takes_send, sent, sent_by, range, range_length, sends_datagram, destinations, destinations_by, taken, taken_by, tx_byte}
+use Rattle.chip_sheet.specs.Streams.{Starts, is_of, is_open, sends, sent, sent_by, range, range_length, destinations, destinations_by, taken, taken_by, tx_byte}
 use Rattle.chip_sheet.specs.Windows.{flight}
 use Rattle.chip_sheet.specs.LinkCalls.{keeps_address, kept_address}
 use Rattle.chip_sheet.specs.Legal.{Legal}

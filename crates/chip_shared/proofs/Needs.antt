@@ -1,5 +1,5 @@
 -- What each call needs, by the fields of the shared state.
-use Rattle.std.proofs.Common.{◌≡◌, ◌≤◌, ◌<◌, ◌+◌, ◌*◌, ◌/◌, ◌%◌, ◌^◌, ℕ, zero, suc, ◌-◌, Bool, true, false, ◌||◌, leb, eqb, cond, List, [], ◌∷◌, ◌++◌, length, length-append, drop, Option, None, Some, refl, sym, ap, ◌∙◌, subst, arith}
+use Rattle.std.proofs.Common.{◌≡◌, ◌≤◌, ◌<◌, ◌+◌, ◌/◌, ℕ, zero, suc, ◌-◌, Bool, true, false, ◌||◌, leb, eqb, cond, List, [], ◌∷◌, ◌++◌, length, length-append, drop, None, refl, sym, ap, ◌∙◌, subst, arith}
 use Rattle.std.proofs.lemmas.Bool.{leb-false}
 use Rattle.chip_sheet.specs.declared.event.ConnId.{ConnId}
 use Rattle.chip_sheet.specs.declared.socket.Due.{Due}
@@ -83,6 +83,7 @@ due_told before chip log links calls place told call view due is = subst (λ (s 
 -- Where nothing was due, a turn in which nothing happened.
 pub idles_keeps : {L : Type 0} (before mid new : State L) → Keeps before mid → mid.stopped ≡ before.stopped → IsOpen before → new ≡ record mid { log = record mid.log { past = Rest ∷ mid.log.past } } → Idles before did.Idle new
 idles_keeps before mid new keeps stopped open_ is =
+    let more = keeps.events in
     subst (λ (s : State _). Idles before did.Idle s) (sym is) (record {
       did = refl;
       past = ap (λ (p : Past). Rest ∷ p) keeps.past;
@@ -91,6 +92,7 @@ idles_keeps before mid new keeps stopped open_ is =
       starts = keeps.starts;
       links = keeps.links;
       calls = keeps.calls;
+      events = omega (arith, more);
     })
 
 pub no_first : {L : Type 0} (before mid : State L) (from : ℕ) → Keeps before mid → first_due mid.starts mid.log.past from ≡ None → first_due before.starts before.log.past from ≡ None

@@ -1,18 +1,15 @@
 -- What is offered to a write, and what a datagram is, by the pieces that the chip lends.
-use Rattle.std.proofs.Common.{◌≡◌, ◌≤◌, ◌<◌, ◌+◌, ◌-◌, ℕ, zero, suc, Bool, true, false, ◌&&◌, leb, List, [], ◌∷◌, ◌++◌, length, length-append, take, drop, refl, sym, ap, ◌∙◌, subst, arith}
+use Rattle.std.proofs.Common.{◌≡◌, ◌+◌, ◌-◌, ℕ, zero, suc, Bool, true, false, ◌&&◌, leb, List, [], ◌∷◌, ◌++◌, length, length-append, take, drop, refl, sym, ap, ◌∙◌, arith}
 use Rattle.std.proofs.lemmas.Bool.{le-leb, cond-true}
-use Rattle.std.proofs.lemmas.List.{take-append-drop}
 use Rattle.std.proofs.Math.Seq.{take-append_seam}
 use Rattle.chip_sheet.specs.declared.event.ConnId.{ConnId}
 use Rattle.chip_sheet.specs.declared.event.Addr.{Addr}
 use Rattle.chip_sheet.specs.declared.socket.Due.TheVariants as due
 use Rattle.chip_sheet.specs.Past.{Past}
-use Rattle.chip_sheet.specs.Life.{status, lives, is_udp}
+use Rattle.chip_sheet.specs.Life.{status, lives}
 use Rattle.chip_sheet.specs.Streams.{Starts, is_open, sent, taken}
 use Rattle.chip_sheet.specs.Windows.{flight, in_flight, offered, offered_length}
 use Rattle.chip_sheet.specs.LinkAnswers.{may_answer}
-use Rattle.chip_sheet.specs.Legal.{Legal}
-use Rattle.chip_sheet.proofs.Within.{taken_within}
 use Rattle.link_trait.specs.declared.links.Writing.{Writing}
 use Rattle.link_trait.specs.declared.links.Writing.TheVariants as wrote
 use Rattle.link_trait.specs.declared.links.Sending.{Sending}

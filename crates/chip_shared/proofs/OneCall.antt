@@ -1,21 +1,20 @@
 -- One call of a link step, on plain values: what it may be answered fits the chip, the shared state stays sound, and the step is the one
 -- that the definition says.
-use Rattle.std.proofs.Common.{◌≡◌, ◌≤◌, ◌<◌, ◌+◌, ◌-◌, ◌*◌, ◌/◌, ◌%◌, ℕ, min, zero, suc, Bool, true, false, cond, eqb, leb, List, [], ◌∷◌, ◌++◌, length, take, Option, None, Some, inl, inr, refl, sym, ap, ◌∙◌, subst, arith, ◌⊎◌, ◌||◌, ◌^◌}
+use Rattle.std.proofs.Common.{◌≡◌, ◌≤◌, ◌<◌, ◌+◌, ◌/◌, ◌%◌, ℕ, min, Bool, true, false, cond, eqb, leb, ◌∷◌, length, Option, None, Some, inl, inr, refl, sym, ap, ◌∙◌, subst, arith, ◌⊎◌, ◌||◌, ◌^◌}
 use Rattle.std.specs.Prelude.{MatchOption}
-use Rattle.std.proofs.lemmas.Bool.{cases_Bool, cond-true, cond-false, and_parts, leb-true, leb-false}
+use Rattle.std.proofs.lemmas.Bool.{and_parts, leb-true, leb-false}
 use Rattle.chip_sheet.specs.declared.event.LinkWhat.{LinkWhat}
 use Rattle.chip_sheet.specs.declared.event.LinkEntry.{LinkEntry}
 use Rattle.chip_sheet.specs.declared.event.Entry.{Entry}
-use Rattle.chip_sheet.specs.declared.event.Entry.TheVariants.{Bus, Link, Rest}
 use Rattle.chip_sheet.specs.declared.socket.Due.{Due}
 use Rattle.chip_sheet.specs.declared.socket.Due.TheVariants as due
 use Rattle.chip_sheet.specs.Past.{Past, link_entry}
 use Rattle.chip_sheet.specs.Streams.{Starts}
 use Rattle.chip_sheet.specs.Windows.{flight, in_flight, offered, offered_length, room_length, rx_free, most_read}
 use Rattle.chip_sheet.specs.Life.{status, lives, old}
-use Rattle.chip_sheet.specs.LinkCalls.{outgoing, incoming, due_at, fits, one_to, connection, kept_address}
+use Rattle.chip_sheet.specs.LinkCalls.{outgoing, incoming, due_at, fits, connection, kept_address}
 use Rattle.chip_sheet.specs.LinkAnswers.{LinkAnswer, Done, DoneFrom, DoneWith, DoneBytes, DoneDatagram, NotYet, Refused, TimedOut, End, Failed, entry_by, may_answer}
-use Rattle.chip_sheet.specs.Legal.{Legal, FitsAfter}
+use Rattle.chip_sheet.specs.Legal.{FitsAfter}
 use Rattle.chip_sheet.proofs.AnswerLaws.{answer_fits}
 use Rattle.chip_core.specs.declared.chip.Chip.{Chip}
 use Rattle.chip_core.specs.Chip.{Stands, stop_kept, starts_of, fits_here}
@@ -26,7 +25,7 @@ use Rattle.link_trait.specs.Shown.{Shown, Lists, Makes}
 use Rattle.chip_shared.specs.State.{State}
 use Rattle.chip_shared.specs.Sound.{Sound, state_of}
 use Rattle.chip_shared.specs.Asking.{IsOpen}
-use Rattle.chip_shared.specs.Calling.{Called, call_of, call_at, did_at}
+use Rattle.chip_shared.specs.Calling.{Called, call_of, did_at}
 use Rattle.chip_shared.specs.Entries.{entry_for, did_for}
 use Rattle.chip_shared.specs.declared.shared.LinkDid.{LinkDid}
 use Rattle.chip_shared.proofs.DueFacts.{Says, says}
@@ -144,8 +143,9 @@ pub call_is : {L : Type 0} (effect : L → Call → LinkAnswer → L → Type 0)
     → effect links (call_of call (offered (starts_of chip) log.past (place / 2)) (in_flight (starts_of chip) log.past (place / 2)) (room_length (starts_of chip) log.past (place / 2))) answer newer
     → entry_for (place / 2) w ≡ entry_by (place / 2) (flight (starts_of chip) log.past (place / 2)) call answer → did_for place w ≡ did_at place answer → does ≡ did_for place w
     → starts_of new ≡ starts_of chip → stop_kept new ≡ None → after.past ≡ entry_for (place / 2) w ∷ log.past → after.limit ≡ log.limit
+    → log.spare_events ≤ after.spare_events + 1
     → Called effect old place does (state_of new after newer (calls + 1))
-call_is effect old chip new log after links newer calls place call answer w does view is may effects entry says_ did same unstopped past limit =
+call_is effect old chip new log after links newer calls place call answer w does view is may effects entry says_ did same unstopped past limit events =
     subst (λ (s : State _). Called effect s place does (state_of new after newer (calls + 1))) view (record {
       answer = answer;
       effect = rw is effects;
@@ -156,6 +156,7 @@ call_is effect old chip new log after links newer calls place call answer w does
       limit = limit;
       stopped = unstopped;
       starts = same;
+      events = events;
     })
 
 -- What is due, by the fields.

@@ -1,21 +1,18 @@
 -- What an open state has room for, by its fields; and what a stop makes of the shared state.
-use Rattle.std.proofs.Common.{◌≡◌, ◌≤◌, ◌<◌, ◌+◌, ◌^◌, ℕ, Bool, true, false, ◌||◌, leb, List, ◌∷◌, length, Option, None, Some, inl, inr, refl, sym, ap, ◌∙◌, subst, arith, ◌⊎◌, Result, Ok, Err}
+use Rattle.std.proofs.Common.{◌≡◌, ◌≤◌, ◌<◌, ◌+◌, ◌^◌, ℕ, Bool, true, false, ◌||◌, leb, ◌∷◌, length, None, Some, inl, inr, refl, sym, ap, ◌∙◌, subst, arith, Err}
 use Rattle.std.proofs.lemmas.Bool.{leb-false}
 use Rattle.board_bus.specs.declared.event.BusEvent.{BusEvent}
 use Rattle.chip_sheet.specs.declared.event.Entry.TheVariants.{Rest}
 use Rattle.chip_sheet.specs.declared.stop.ChipStop.{ChipStop}
-use Rattle.chip_sheet.specs.Past.{Past}
-use Rattle.chip_sheet.specs.Streams.{Starts}
-use Rattle.chip_sheet.specs.Stops.{stop}
 use Rattle.chip_core.specs.declared.chip.Chip.{Chip}
 use Rattle.chip_core.specs.Chip.{Stands, stop_kept, starts_of}
 use Rattle.chip_core.specs.Chip as core
-use Rattle.chip_hist.specs.Log.{Log, is_full, weight_of}
+use Rattle.chip_hist.specs.Log.{Log, weight_of}
 use Rattle.link_trait.specs.Shown.{Shown}
 use Rattle.chip_shared.specs.State.{State, Keeps}
 use Rattle.chip_shared.specs.Sound.{Sound, state_of}
 use Rattle.chip_shared.specs.Tied.{Tied, Ready}
-use Rattle.chip_shared.specs.Asking.{Asks, IsOpen, Refused, StopsAt}
+use Rattle.chip_shared.specs.Asking.{Asks, IsOpen}
 use Rattle.chip_shared.specs.declared.shared.StepEnd.TheVariants.{Stopped}
 
 neither : (a b : Bool) → (a || b) ≡ false → (a ≡ false) × (b ≡ false)

@@ -1,5 +1,5 @@
 -- A read, on plain values: the connection that it needs, what it may be answered, and the chip whose room was read into.
-use Rattle.std.proofs.Common.{◌≡◌, ◌≤◌, ◌<◌, ◌/◌, ◌&&◌, ℕ, Bool, true, leb, List, ◌∷◌, length, take, refl, sym, ap, ◌∙◌, subst, arith}
+use Rattle.std.proofs.Common.{◌≡◌, ◌≤◌, ◌<◌, ◌/◌, ℕ, true, leb, List, ◌∷◌, length, take, refl, sym, ap, ◌∙◌, subst, arith}
 use Rattle.std.proofs.lemmas.Bool.{le-leb, and_from}
 use Rattle.std.proofs.lemmas.List.{length-take-le}
 use Rattle.chip_sheet.specs.declared.event.ConnId.{ConnId}

@@ -1,5 +1,5 @@
 -- The first place at which a call is due, place by place; and a state in which nothing that matters has changed.
-use Rattle.std.proofs.Common.{◌≡◌, ◌≤◌, ◌<◌, ◌+◌, ℕ, zero, suc, Bool, true, false, ◌||◌, cond, leb, List, [], ◌∷◌, drop, length, Option, None, Some, refl, sym, ap, ◌∙◌, subst, arith}
+use Rattle.std.proofs.Common.{◌≡◌, ◌<◌, ◌+◌, ℕ, zero, suc, Bool, true, false, ◌||◌, cond, leb, List, [], ◌∷◌, drop, length, Option, Some, refl, sym, ap, ◌∙◌, subst, arith}
 use Rattle.std.proofs.Math.Seq.{drop-cons}
 use Rattle.std.proofs.Math.ListN.{get_or}
 use Rattle.chip_sheet.specs.Past.{Past}
@@ -7,7 +7,7 @@ use Rattle.chip_sheet.specs.Streams.{Starts}
 use Rattle.chip_sheet.specs.LinkCalls.{due_at}
 use Rattle.chip_sheet.specs.LinkAnswers.{LinkAnswer}
 use Rattle.chip_sheet.proofs.Tables.{same_at}
-use Rattle.chip_hist.specs.Log.{Log, is_full, weight_of}
+use Rattle.chip_hist.specs.Log.{weight_of}
 use Rattle.link_trait.specs.Calls.{Call}
 use Rattle.chip_shared.specs.State.{State, Keeps}
 use Rattle.chip_shared.specs.Asking.{IsOpen}
@@ -61,17 +61,21 @@ open_keeps old mid keeps stopped open_ = record {
 }
 
 pub called_keeps : {L : Type 0} (does : L → Call → LinkAnswer → L → Type 0) (old mid new : State L) (place : ℕ) (did : LinkDid) → Keeps old mid → Called does mid place did new → Called does old place did new
-called_keeps does old mid new place did keeps it = record {
-  answer = it.answer;
-  effect = rw (sym keeps.links, sym keeps.starts, sym keeps.past) it.effect;
-  may = rw (sym keeps.starts, sym keeps.past) it.may;
-  past = rw (sym keeps.starts, sym keeps.past) it.past;
-  did = it.did;
-  calls = it.calls ∙ ap (λ (k : ℕ). k + 1) keeps.calls;
-  limit = it.limit ∙ keeps.limit;
-  stopped = it.stopped;
-  starts = it.starts ∙ keeps.starts;
-}
+called_keeps does old mid new place did keeps it =
+    let more = keeps.events in
+    let room = it.events in
+    record {
+      answer = it.answer;
+      effect = rw (sym keeps.links, sym keeps.starts, sym keeps.past) it.effect;
+      may = rw (sym keeps.starts, sym keeps.past) it.may;
+      past = rw (sym keeps.starts, sym keeps.past) it.past;
+      did = it.did;
+      calls = it.calls ∙ ap (λ (k : ℕ). k + 1) keeps.calls;
+      limit = it.limit ∙ keeps.limit;
+      stopped = it.stopped;
+      starts = it.starts ∙ keeps.starts;
+      events = omega (arith, more, room);
+    }
 
 below_of : (starts : Starts) (past : Past) (ps : List ℕ) (place : ℕ) → AllBelow ps → first_of starts past ps ≡ Some place → place < 16
 below_of starts past [] place all h = cc

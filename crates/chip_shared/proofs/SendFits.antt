@@ -1,24 +1,19 @@
 -- A SEND that fits is answered 00, and adds exactly its range.
-use Rattle.std.proofs.Common.{◌≡◌, ◌≤◌, ◌<◌, ◌+◌, ℕ, Bool, true, false, List, [], ◌∷◌, ◌++◌, length, Result, Ok, Err, Option, None, Some, inl, inr, refl, sym, ap, ◌∙◌, subst, arith, ◌⊎◌}
+use Rattle.std.proofs.Common.{◌≡◌, ◌<◌, ℕ, Result, Ok, Err, None, Some, inl, inr, sym, ap, ◌∙◌, arith}
 use Rattle.std.proofs.lemmas.Bool.{false≢true}
 use Rattle.board_bus.specs.declared.event.BusEvent.{BusEvent}
 use Rattle.board_bus.specs.declared.event.BusEvent.TheVariants.{Select, Byte, Look}
 use Rattle.board_bus.specs.declared.event.BusAnswer.{BusAnswer}
 use Rattle.board_bus.specs.declared.event.BusAnswer.TheVariants.{Out}
 use Rattle.chip_sheet.specs.declared.phase.Access.{Access}
-use Rattle.chip_sheet.specs.declared.phase.Access.TheVariants.{NoAccess, Read, Write}
-use Rattle.chip_sheet.specs.declared.event.Entry.TheVariants.{Bus}
+use Rattle.chip_sheet.specs.declared.phase.Access.TheVariants.{Write}
 use Rattle.chip_sheet.specs.declared.stop.ChipStop.{ChipStop}
 use Rattle.chip_sheet.specs.Past.{Past}
 use Rattle.chip_sheet.specs.Frames.{access}
 use Rattle.chip_sheet.specs.Answers.{answer, byte_out}
 use Rattle.chip_sheet.specs.Blocks.{registers_of}
-use Rattle.chip_sheet.specs.Life.{status, lives, is_udp}
-use Rattle.chip_sheet.specs.Stops.{stop}
-use Rattle.chip_sheet.specs.Streams.{Starts, sent, sends, range, range_length}
-use Rattle.chip_sheet.specs.Windows.{flight, tx_free}
+use Rattle.chip_sheet.specs.Streams.{Starts}
 use Rattle.chip_sheet.proofs.SendLaws.{send_goes, send_adds}
-use Rattle.chip_hist.specs.Log.{is_full}
 use Rattle.chip_shared.specs.State.{State}
 use Rattle.chip_shared.specs.Asking.{Asks, IsOpen, Fits, Goes}
 use Rattle.chip_shared.specs.declared.shared.StepEnd.{StepEnd}

@@ -1,12 +1,9 @@
 -- The shared state stays sound, on plain values.
-use Rattle.std.proofs.Common.{◌≡◌, ◌≤◌, ◌+◌, ℕ, ◌∷◌, length, arith, sym, ap, ◌∙◌, None, Option}
+use Rattle.std.proofs.Common.{◌≡◌, ◌≤◌, ◌+◌, ℕ, ◌∷◌, length, arith, sym, ap, ◌∙◌}
 use Rattle.board_bus.specs.declared.event.BusEvent.{BusEvent}
 use Rattle.board_bus.specs.declared.event.BusAnswer.{BusAnswer}
 use Rattle.chip_sheet.specs.declared.event.Entry.TheVariants.{Bus}
 use Rattle.chip_sheet.specs.Past.{Past}
-use Rattle.chip_sheet.specs.Streams.{Starts}
-use Rattle.chip_sheet.specs.Answers.{answer}
-use Rattle.chip_sheet.specs.Stops.{stop}
 use Rattle.chip_core.specs.declared.chip.Chip.{Chip}
 use Rattle.chip_core.specs.Chip.{Stands, stop_kept, starts_of}
 use Rattle.chip_core.specs.Chip as core

@@ -60,13 +60,13 @@ IsPlace next = IfSome next (λ from. from < 16)
 abbrev pub Behind : ℕ → Option ℕ → Type 0
 Behind from next = IsPlace next × (left next < 16 - from)
 
-behind_goes : (from place : ℕ) → from < 16 → from ≤ place → Behind from (behind place)
+pub behind_goes : (from place : ℕ) → from < 16 → from ≤ place → Behind from (behind place)
 behind_goes from place few on =
     cond_both (ltb place 15) (Some (place + 1)) None (Behind from)
     (λ e. let h = ltb-true place 15 e in (omega (arith, h), omega (arith, h, few, on)))
     (λ e. (tt, omega (arith, few)))
 
-did_behind : (place : ℕ) (answer : LinkAnswer) → goes_on_from (did_at place answer) ≡ behind place
+pub did_behind : (place : ℕ) (answer : LinkAnswer) → goes_on_from (did_at place answer) ≡ behind place
 did_behind place NotYet = refl
 did_behind place Failed = refl
 did_behind place answer = refl

@@ -1,9 +1,8 @@
 -- What a write or a read finds: a connection that is made, bytes in flight, and room.
-use Rattle.std.proofs.Common.{◌≡◌, ◌≤◌, ◌<◌, ◌+◌, ◌-◌, ◌*◌, ◌/◌, ◌%◌, ℕ, min, zero, suc, Bool, true, false, not, ◌&&◌, ◌||◌, cond, eqb, ltb, leb, List, [], ◌∷◌, Option, None, Some, inl, inr, refl, sym, ap, ◌∙◌, subst, arith, ◌⊎◌, mod-lt}
-use Rattle.std.proofs.lemmas.Bool.{cond_both, cond-true, ltb-true, eqb-true, and_parts, or_cases, false≢true}
+use Rattle.std.proofs.Common.{◌≡◌, ◌≤◌, ◌<◌, ◌-◌, ◌/◌, ◌%◌, ℕ, min, zero, suc, Bool, true, false, ◌&&◌, cond, eqb, ltb, [], ◌∷◌, Option, None, Some, inl, inr, refl, sym, ap, ◌∙◌, subst, arith, mod-lt}
+use Rattle.std.proofs.lemmas.Bool.{cond_both, ltb-true, eqb-true, or_cases, false≢true}
 use Rattle.chip_sheet.specs.declared.event.Addr.{Addr}
 use Rattle.chip_sheet.specs.declared.event.ConnId.{ConnId}
-use Rattle.chip_sheet.specs.declared.event.Entry.{Entry}
 use Rattle.chip_sheet.specs.declared.event.Entry.TheVariants.{Bus, Link, Rest}
 use Rattle.chip_sheet.specs.declared.event.LinkEntry.{LinkEntry}
 use Rattle.chip_sheet.specs.declared.event.LinkEntry.TheVariants.{Dropped}
@@ -17,7 +16,7 @@ use Rattle.chip_sheet.specs.Past.{Past}
 use Rattle.chip_sheet.specs.Life.{Life, Facts, facts_of, life, life_after, lives_on, new_life, next, begins, cause, status, lives, old, is_closed, is_udp}
 use Rattle.chip_sheet.specs.Sizes.{tx_size, rx_size}
 use Rattle.chip_sheet.specs.Streams.{Starts, is_open}
-use Rattle.chip_sheet.specs.Windows.{flight, rx_free, unread, offered_length, room_length, first_in_flight, received_position, most_read}
+use Rattle.chip_sheet.specs.Windows.{flight, rx_free, unread, offered_length, room_length, first_in_flight, received_position}
 use Rattle.chip_sheet.specs.Connections.{is_dropped, is_drop, is_life}
 use Rattle.chip_sheet.specs.LinkCalls.{outgoing_in, incoming_in, outgoing, incoming, outgoing_of, incoming_of, due_at, connection, kept_address, kept_port}
 use Rattle.chip_sheet.specs.Legal.{Legal}
@@ -26,7 +25,6 @@ use Rattle.chip_sheet.proofs.FitLaws.{flight_within}
 use Rattle.chip_sheet.proofs.MadeLaws.{open_made}
 use Rattle.link_trait.specs.Shown.{Shown}
 use Rattle.chip_shared.specs.Tied.{Ready}
-use Rattle.chip_shared.proofs.DueFacts.{Says, says}
 
 -- A life that the link forgot is closed, and stays so.
 record Behind (at : Life) (l : ℕ) : Type 0 where

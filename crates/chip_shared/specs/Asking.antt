@@ -1,5 +1,5 @@
 -- What an event of the bus makes of the shared state.
-use Rattle.std.specs.Prelude.{◌++◌, length, ◌≡◌, ◌⊎◌, ℕ, ◌≤◌, ◌+◌, Bool, true, false, Result, Ok, Err, Option, Some, None, ◌∷◌}
+use Rattle.std.specs.Prelude.{◌++◌, length, ◌≡◌, ◌⊎◌, ℕ, ◌≤◌, ◌+◌, true, false, Result, Ok, Err, Some, None, ◌∷◌}
 use Rattle.board_bus.specs.declared.event.BusEvent.{BusEvent}
 use Rattle.board_bus.specs.declared.event.BusAnswer.{BusAnswer}
 use Rattle.board_bus.specs.declared.event.BusAnswer.TheVariants.{Out}
@@ -10,7 +10,6 @@ use Rattle.chip_sheet.specs.Blocks.{registers_of}
 use Rattle.chip_sheet.specs.Life.{status, lives, is_udp}
 use Rattle.chip_sheet.specs.Streams.{sent, sends, range, range_length}
 use Rattle.chip_sheet.specs.Windows.{flight, tx_free}
-use Rattle.chip_sheet.specs.declared.stop.ChipStop.{ChipStop}
 use Rattle.chip_sheet.specs.declared.event.Entry.TheVariants.{Bus}
 use Rattle.chip_sheet.specs.Answers.{answer}
 use Rattle.chip_sheet.specs.Stops.{stop}

@@ -1,5 +1,5 @@
 -- What a link step makes of the shared state: the call that is due first, and its answer.
-use Rattle.std.specs.Prelude.{◌≡◌, ◌⊎◌, ℕ, ◌≤◌, ◌<◌, ◌+◌, ◌/◌, Bool, true, false, List, [], ◌∷◌, drop, length, Result, Ok, Err, Option, Some, None, MatchOption, if◌then◌else◌}
+use Rattle.std.specs.Prelude.{◌≡◌, ◌⊎◌, ℕ, ◌≤◌, ◌<◌, ◌+◌, ◌/◌, Bool, true, false, List, [], ◌∷◌, drop, Result, Ok, Err, Option, Some, None, MatchOption, if◌then◌else◌}
 use Rattle.chip_sheet.specs.declared.socket.Due.{Due}
 use Rattle.chip_sheet.specs.declared.socket.Due.TheVariants as due
 use Rattle.chip_sheet.specs.declared.event.Entry.TheVariants.{Rest}
@@ -70,6 +70,8 @@ pub record Called {L : Type 0} (does_so : L → Call → LinkAnswer → L → Ty
   pub limit : new.log.limit ≡ old.log.limit
   pub stopped : new.stopped ≡ None
   pub starts : new.starts ≡ old.starts
+  -- it takes the room of one event at most
+  pub events : old.log.spare_events ≤ new.log.spare_events + 1
 
 -- Nothing was due: a turn in which nothing happened stands in the history, and nothing else has changed.
 pub record Idles {L : Type 0} (old : State L) (does : LinkDid) (new : State L) : Type 0 where
@@ -80,6 +82,7 @@ pub record Idles {L : Type 0} (old : State L) (does : LinkDid) (new : State L) :
   pub starts : new.starts ≡ old.starts
   pub links : new.links ≡ old.links
   pub calls : new.calls ≡ old.calls
+  pub events : old.log.spare_events ≤ new.log.spare_events + 1
 
 abbrev pub Steps : {L : Type 0} → (L → Call → LinkAnswer → L → Type 0) → State L → ℕ → Result LinkDid StepEnd → State L → Type 0
 Steps effect old from (Ok does) new =

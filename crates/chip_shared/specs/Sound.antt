@@ -1,5 +1,5 @@
 -- What always holds of the chip, its history and its links together.
-use Rattle.std.specs.Prelude.{◌≡◌, ℕ, ◌≤◌, length}
+use Rattle.std.specs.Prelude.{ℕ, ◌≤◌, length}
 use Rattle.chip_hist.specs.Log.{Log}
 use Rattle.link_trait.specs.Shown.{Shown}
 use Rattle.chip_core.specs.declared.chip.Chip.{Chip}

@@ -33,6 +33,7 @@ pub(crate) fn settle(chip: &mut Chip, history: &mut History, sn: u8, what: Optio
     ensures stands { (starts : Starts) (past : Past) → Stands starts chip.old past → Stands starts chip.new (entry_for sn what.entry ∷ past) }
     ensures unstopped { stop_kept chip.new ≡ None }
     ensures past { history.new.past ≡ entry_for sn what.entry ∷ history.old.past }
+    ensures events { history.old.spare_events ≤ history.new.spare_events + 1 }
     ensures limit { history.new.limit ≡ history.old.limit }
 {
     laws::rest_stands();

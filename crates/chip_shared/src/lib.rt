@@ -10,4 +10,4 @@ pub mod closing;
 mod reads;
 pub mod shared;
 mod steps;
-mod sweep;
+pub mod sweep;

@@ -33,6 +33,7 @@ fn note(history: &mut History, sn: u8, what: Option<LinkWhat<'_>>)
     requires light { weight_of history.old.past ≤ history.old.limit + MARGIN }
     requires short { length history.old.past ≤ MOST_EVENTS + MARGIN }
     ensures past { history.new.past ≡ entry_for sn what.entry ∷ history.old.past }
+    ensures events { history.old.spare_events ≤ history.new.spare_events + 1 }
     ensures limit { history.new.limit ≡ history.old.limit }
 {
     match what {

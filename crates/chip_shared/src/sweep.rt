@@ -1,19 +1,20 @@
-//! A sweep over all places.
+//! A sweep over all places, and where one goes on after each step.
 ghost use Rattle.std.specs.Prelude.{◌≡◌, Some};
 ghost use Rattle.chip_shared.specs.Sweeping.{behind, goes_on_from};
 
 use crate::shared::{LinkDid, Shared, StepEnd};
 use link_trait::links::Links;
 
-/// The place after a place, if there is one.
-fn behind_place(place: u8) -> Option<u8>
+/// The place after a place, 0 to 15, if there is one; none after the last.
+pub fn behind_place(place: u8) -> Option<u8>
     ensures { result ≡ behind place }
 {
     if place < 15 { Some(place + 1) } else { None }
 }
 
-/// From where a sweep goes on after a step, if it does.
-fn after_step(did: LinkDid) -> Option<u8>
+/// From where a sweep goes on after a step: the place after the one that was met, 1 to 15. `None` after the last place, or where
+/// nothing was due: the sweep is over.
+pub fn after_step(did: LinkDid) -> Option<u8>
     ensures { result ≡ goes_on_from did }
 {
     match did {

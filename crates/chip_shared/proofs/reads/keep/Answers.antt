@@ -1,4 +1,4 @@
-use Rattle.std.proofs.Common.{◌≡◌, refl, ap, take}
+use Rattle.std.proofs.Common.{ap, take}
 use Rattle.chip_sheet.specs.declared.event.ConnId.{ConnId}
 use Rattle.chip_sheet.specs.declared.event.LinkEntry.TheVariants.{Got, Ended, Failed}
 use Rattle.chip_sheet.specs.declared.socket.Due.TheVariants as due

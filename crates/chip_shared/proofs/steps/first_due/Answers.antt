@@ -1,5 +1,4 @@
-use Rattle.std.proofs.Common.{◌≡◌, ◌<◌, ◌≤◌, ◌+◌, ℕ, sym, ap, ◌∙◌, arith}
-use Rattle.chip_sheet.specs.declared.socket.Due.{Due}
+use Rattle.std.proofs.Common.{◌≡◌, sym, ap, ◌∙◌, arith}
 use Rattle.chip_shared.specs.Calling.{is_due, first_due}
 use Rattle.chip_shared.proofs.Seeking.{seeks_on, finds}
 use Rattle.chip_shared.proofs.steps.first_due.Goals as goal

@@ -1,4 +1,4 @@
-use Rattle.std.proofs.Common.{◌≡◌, ◌≤◌, ℕ}
+use Rattle.std.proofs.Common.{◌≡◌, ◌≤◌}
 use Rattle.chip_sheet.specs.Past.{Past}
 use Rattle.chip_sheet.specs.Streams.{Starts}
 use Rattle.chip_core.specs.Chip.{Stands}

@@ -1,4 +1,4 @@
-use Rattle.std.proofs.Common.{◌≡◌, ◌<◌, ◌/◌, ◌∷◌, ℕ, true, refl, arith}
+use Rattle.std.proofs.Common.{◌≡◌, ◌/◌, ◌∷◌, ℕ, true, refl, arith}
 use Rattle.chip_sheet.specs.declared.socket.Due.TheVariants as due
 use Rattle.chip_sheet.specs.Windows.{flight, offered_length, room_length}
 use Rattle.chip_sheet.specs.LinkAnswers.{may_answer}
@@ -75,7 +75,7 @@ returns g c =
           c.self.view_is (due_inside c.args.self.now it.chip it.history it.links it.calls c.args.place call c.self.view_is c.requires.due)
           (may (offered_length starts past n) (room_length starts past n) c.connect.result c.args.c c.args.to) (record { so = c.connect.ensures.effect; counts = c.connect.ensures.counts })
           (c.linked-what.ensures.entry n (flight starts past n) c.args.c c.args.to) (c.linked-what.ensures.did c.args.place) c.did.ensures
-          (c.starts_are.ensures starts c.settle.new.chip (entry ∷ past) stands) c.settle.ensures.unstopped c.settle.ensures.past c.settle.ensures.limit;
+          (c.starts_are.ensures starts c.settle.new.chip (entry ∷ past) stands) c.settle.ensures.unstopped c.settle.ensures.past c.settle.ensures.limit c.settle.ensures.events;
     }
 
 pub connect-requires : goal.connect-requires

@@ -1,4 +1,4 @@
-use Rattle.std.proofs.Common.{◌≡◌, ◌<◌, ◌/◌, ◌∷◌, ℕ, true, refl, arith}
+use Rattle.std.proofs.Common.{◌≡◌, ◌/◌, ◌∷◌, ℕ, true, refl, arith}
 use Rattle.chip_sheet.specs.declared.socket.Due.TheVariants as due
 use Rattle.chip_sheet.specs.Windows.{flight, offered_length, room_length}
 use Rattle.chip_sheet.specs.LinkAnswers.{may_answer}
@@ -69,7 +69,7 @@ returns g c =
           c.self.view_is (due_inside c.args.self.now it.chip it.history it.links it.calls c.args.place call c.self.view_is c.requires.due)
           (may (offered_length starts past n) (room_length starts past n) c.args.c) (record { so = c.drop_conn.ensures.effect; counts = c.drop_conn.ensures.counts })
           (c.dropped-what.ensures.entry n (flight starts past n) c.args.c) (c.dropped-what.ensures.did c.args.place) c.did.ensures
-          (c.starts_are.ensures starts c.settle.new.chip (entry ∷ past) stands) c.settle.ensures.unstopped c.settle.ensures.past c.settle.ensures.limit;
+          (c.starts_are.ensures starts c.settle.new.chip (entry ∷ past) stands) c.settle.ensures.unstopped c.settle.ensures.past c.settle.ensures.limit c.settle.ensures.events;
     }
 
 pub drop_conn-requires : goal.drop_conn-requires

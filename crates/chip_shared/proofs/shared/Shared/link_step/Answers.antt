@@ -1,4 +1,4 @@
-use Rattle.std.proofs.Common.{◌≡◌, ◌<◌, ℕ, true, None, Some, sym, ◌∙◌, subst}
+use Rattle.std.proofs.Common.{◌≡◌, true, None, Some, sym, ◌∙◌, subst}
 use Rattle.chip_sheet.specs.LinkCalls.{due_at}
 use Rattle.chip_core.specs.Chip.{starts_of}
 use Rattle.chip_shared.specs.State.{State}

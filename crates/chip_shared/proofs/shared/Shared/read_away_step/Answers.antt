@@ -1,4 +1,4 @@
-use Rattle.std.proofs.Common.{◌≡◌, ◌<◌, ◌/◌, ◌∷◌, ◌∙◌, ℕ, true, length, List, refl, subst, arith}
+use Rattle.std.proofs.Common.{◌/◌, ◌∷◌, ◌∙◌, ℕ, subst, arith}
 use Rattle.chip_sheet.specs.declared.socket.Due.TheVariants as due
 use Rattle.chip_sheet.specs.Windows.{flight, offered_length, room_length}
 use Rattle.chip_core.specs.Chip.{starts_of}
@@ -73,7 +73,7 @@ returns g c =
           c.self.view_is (due_inside c.args.self.now it.chip it.history it.links it.calls c.args.place call c.self.view_is c.requires.due)
           (away_may c.args.c (offered_length starts past n) (room_length starts past n) c.read-answer.result c.read-answer.new.buf c.read-answer.ensures.fits (c.read-answer.auto.buf ∙ c.self.told)) (record { so = subst (λ (k : ℕ). g.L.Links.effect it.links (Read c.args.c k) (reading c.read-answer.result c.read-answer.new.buf) c.read-answer.new.self) c.self.told c.read-answer.ensures.effect; counts = (subst (λ (k : ℕ). Counts (g.L.Links.shown it.links) (Read c.args.c k) (reading c.read-answer.result c.read-answer.new.buf) (g.L.Links.shown c.read-answer.new.self)) c.self.told c.read-answer.ensures.counts) })
           (c.had_read-what.ensures.away n (flight starts past n) c.args.c) (c.had_read-what.ensures.did c.args.place) c.did.ensures
-          (c.starts_are.ensures starts c.settle.new.chip (entry ∷ past) stands) c.settle.ensures.unstopped c.settle.ensures.past c.settle.ensures.limit;
+          (c.starts_are.ensures starts c.settle.new.chip (entry ∷ past) stands) c.settle.ensures.unstopped c.settle.ensures.past c.settle.ensures.limit c.settle.ensures.events;
     }
 
 pub read-answer-requires-clause-socket : goal.read-answer-requires-clause-socket

@@ -1,4 +1,4 @@
-use Rattle.std.proofs.Common.{◌≡◌, ◌<◌, ◌/◌, ◌∷◌, ◌∙◌, ℕ, length, ap, sym, subst, arith}
+use Rattle.std.proofs.Common.{◌<◌, ◌/◌, ◌∷◌, ◌∙◌, ℕ, length, ap, sym, subst, arith}
 use Rattle.chip_sheet.specs.declared.socket.Due.TheVariants as due
 use Rattle.chip_sheet.specs.Windows.{flight, offered_length, room_length}
 use Rattle.chip_core.specs.Chip.{starts_of, with_room, room_bytes}
@@ -147,7 +147,7 @@ returns g c =
           c.self.view_is is may
           (record { so = subst (λ (k : ℕ). g.L.Links.effect it.links (Read c.args.c k) answer c.read-answer.new.self) long c.read-answer.ensures.effect; counts = (subst (λ (k : ℕ). Counts (g.L.Links.shown it.links) (Read c.args.c k) answer (g.L.Links.shown c.read-answer.new.self)) long c.read-answer.ensures.counts) })
           entry_is (c.had_read-what.ensures.did c.args.place) c.did-did.ensures
-          (c.starts_are.ensures starts c.keep.new.chip (entry ∷ past) stands) c.keep.ensures.unstopped c.note.ensures.past c.note.ensures.limit;
+          (c.starts_are.ensures starts c.keep.new.chip (entry ∷ past) stands) c.keep.ensures.unstopped c.note.ensures.past c.note.ensures.limit c.note.ensures.events;
     }
 
 pub read-answer-requires-clause-socket : goal.read-answer-requires-clause-socket

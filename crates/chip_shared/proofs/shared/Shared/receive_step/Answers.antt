@@ -1,4 +1,4 @@
-use Rattle.std.proofs.Common.{◌≡◌, ◌<◌, ◌/◌, ◌∷◌, ◌∙◌, ℕ, true, length, List, refl, subst, arith}
+use Rattle.std.proofs.Common.{◌/◌, ◌∷◌, ◌∙◌, ℕ, subst, arith}
 use Rattle.chip_sheet.specs.declared.socket.Due.TheVariants as due
 use Rattle.chip_sheet.specs.Windows.{flight, offered_length, room_length}
 use Rattle.chip_core.specs.Chip.{starts_of}
@@ -67,7 +67,7 @@ returns g c =
           c.self.view_is (due_inside c.args.self.now it.chip it.history it.links it.calls c.args.place call c.self.view_is c.requires.due)
           (receive_may c.args.c c.args.port (offered_length starts past n) (room_length starts past n) c.recv_from-answer.result c.recv_from-answer.new.buf c.recv_from-answer.ensures.fits (c.recv_from-answer.auto.buf ∙ c.self.told)) (record { so = subst (λ (k : ℕ). g.L.Links.effect it.links (RecvFrom c.args.c c.args.port k) (receiving c.recv_from-answer.result c.recv_from-answer.new.buf) c.recv_from-answer.new.self) c.self.told c.recv_from-answer.ensures.effect; counts = (subst (λ (k : ℕ). Counts (g.L.Links.shown it.links) (RecvFrom c.args.c c.args.port k) (receiving c.recv_from-answer.result c.recv_from-answer.new.buf) (g.L.Links.shown c.recv_from-answer.new.self)) c.self.told c.recv_from-answer.ensures.counts) })
           (c.received-what.ensures.entry n (flight starts past n) c.args.port c.args.c) (c.received-what.ensures.did c.args.place) c.did.ensures
-          (c.starts_are.ensures starts c.settle.new.chip (entry ∷ past) stands) c.settle.ensures.unstopped c.settle.ensures.past c.settle.ensures.limit;
+          (c.starts_are.ensures starts c.settle.new.chip (entry ∷ past) stands) c.settle.ensures.unstopped c.settle.ensures.past c.settle.ensures.limit c.settle.ensures.events;
     }
 
 pub recv_from-answer-requires-clause-socket : goal.recv_from-answer-requires-clause-socket

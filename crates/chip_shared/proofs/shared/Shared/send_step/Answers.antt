@@ -1,15 +1,13 @@
-use Rattle.std.proofs.Common.{◌≡◌, ◌<◌, ◌/◌, ◌∷◌, ℕ, true, refl, arith}
+use Rattle.std.proofs.Common.{◌/◌, ◌∷◌, ℕ, arith}
 use Rattle.chip_sheet.specs.declared.socket.Due.TheVariants as due
 use Rattle.chip_sheet.specs.Windows.{flight, offered_length, room_length}
-use Rattle.chip_sheet.specs.LinkAnswers.{may_answer, entry_by}
+use Rattle.chip_sheet.specs.LinkAnswers.{entry_by}
 use Rattle.chip_core.specs.Chip.{starts_of}
-use Rattle.std.proofs.Common.{sym, ap, ◌∙◌, ◌++◌, ◌≤◌, subst, List, length}
-use Rattle.chip_sheet.specs.declared.socket.Status.{Status}
+use Rattle.std.proofs.Common.{ap, ◌∙◌, subst, List}
 use Rattle.chip_sheet.specs.declared.socket.Due.{Due}
-use Rattle.chip_sheet.specs.Windows.{offered, in_flight}
-use Rattle.chip_sheet.specs.Life.{status, lives, old, is_udp}
+use Rattle.chip_sheet.specs.Life.{status, lives, old}
 use Rattle.chip_sheet.specs.LinkCalls.{connection, kept_address}
-use Rattle.chip_sheet.specs.Sizes.{tx_size, tx_sizes}
+use Rattle.chip_sheet.specs.Sizes.{tx_sizes}
 use Rattle.chip_sheet.specs.Streams.{is_open}
 use Rattle.chip_sheet.proofs.FitLaws.{flight_within}
 use Rattle.chip_counts.proofs.OverLives.{size_within}
@@ -20,7 +18,7 @@ use Rattle.chip_shared.proofs.Offers.{send_may, whole_flight}
 use Rattle.chip_shared.specs.Entries.{entry_for}
 use Rattle.chip_shared.specs.Causes.{Does}
 use Rattle.chip_shared.proofs.OneCall.{call_fits, call_room, call_sound, call_is, due_inside, room_inside, short_inside}
-use Rattle.chip_shared.proofs.Needs.{small_call, light_inside, few_inside}
+use Rattle.chip_shared.proofs.Needs.{light_inside, few_inside}
 use Rattle.chip_shared.proofs.shared.Shared.send_step.Goals as goal
 
 pub settle-requires-clause-few : goal.settle-requires-clause-few
@@ -95,7 +93,7 @@ returns g c =
           c.self.view_is (due_inside c.args.self.now it.chip it.history it.links it.calls c.args.place call c.self.view_is c.requires.due)
           (send_may c.args.c c.args.port c.args.to c.send_to.result (offered_length starts past n) (room_length starts past n)) (subst (λ (p : List ℕ). Does g.L.Links.effect g.L.Links.shown it.links (SendTo c.args.c c.args.port c.args.to p) (sending c.send_to.result) c.send_to.new.self) (c.offer.ensures.bytes starts past c.self.invariant.stands) (record { so = c.send_to.ensures.effect; counts = c.send_to.ensures.counts }))
           (c.sent-what.ensures.entry n c.args.port c.args.c c.args.to ∙ ap (λ (k : ℕ). entry_by n k (due.SendTo c.args.c c.args.port c.args.to) (sending c.send_to.result)) long) (c.sent-what.ensures.did c.args.place) c.did.ensures
-          (c.starts_are.ensures starts c.settle.new.chip (entry ∷ past) stands) c.settle.ensures.unstopped c.settle.ensures.past c.settle.ensures.limit;
+          (c.starts_are.ensures starts c.settle.new.chip (entry ∷ past) stands) c.settle.ensures.unstopped c.settle.ensures.past c.settle.ensures.limit c.settle.ensures.events;
     }
 
 pub overflow_cast-flight : goal.overflow_cast-flight

@@ -1,10 +1,8 @@
-use Rattle.std.proofs.Common.{◌≡◌, ◌<◌, ◌/◌, ◌∷◌, ℕ, true, refl, arith}
+use Rattle.std.proofs.Common.{◌/◌, ◌∷◌, ℕ, arith}
 use Rattle.chip_sheet.specs.declared.socket.Due.TheVariants as due
 use Rattle.chip_sheet.specs.Windows.{flight, offered_length, room_length}
-use Rattle.chip_sheet.specs.LinkAnswers.{may_answer}
 use Rattle.chip_core.specs.Chip.{starts_of}
-use Rattle.std.proofs.Common.{sym, ap, ◌∙◌, subst, List, length}
-use Rattle.chip_sheet.specs.Windows.{offered, in_flight}
+use Rattle.std.proofs.Common.{subst, List}
 use Rattle.chip_sheet.specs.Life.{status, lives, old}
 use Rattle.chip_sheet.specs.LinkCalls.{connection, kept_address}
 use Rattle.chip_sheet.specs.declared.socket.Due.{Due}
@@ -16,7 +14,7 @@ use Rattle.chip_shared.proofs.Offers.{write_may, first_offered}
 use Rattle.chip_shared.specs.Entries.{entry_for}
 use Rattle.chip_shared.specs.Causes.{Does}
 use Rattle.chip_shared.proofs.OneCall.{call_fits, call_room, call_sound, call_is, due_inside, room_inside, short_inside}
-use Rattle.chip_shared.proofs.Needs.{small_call, light_inside, few_inside}
+use Rattle.chip_shared.proofs.Needs.{light_inside, few_inside}
 use Rattle.chip_shared.proofs.shared.Shared.write_step.Goals as goal
 
 pub settle-requires-clause-few : goal.settle-requires-clause-few
@@ -75,7 +73,7 @@ returns g c =
           c.self.view_is (due_inside c.args.self.now it.chip it.history it.links it.calls c.args.place call c.self.view_is c.requires.due)
           (write_may c.args.c c.write.result c.offer.result.0.now (offered_length starts past n) (room_length starts past n) c.write.ensures.fits (c.offer.ensures.first starts past c.self.invariant.stands)) (subst (λ (p : List ℕ). Does g.L.Links.effect g.L.Links.shown it.links (Write c.args.c p) (writing c.write.result) c.write.new.self) (first_offered starts past n c.offer.result.0.now c.offer.result.1.now (c.offer.ensures.bytes starts past c.self.invariant.stands) (c.offer.ensures.first starts past c.self.invariant.stands)) (record { so = c.write.ensures.effect; counts = c.write.ensures.counts }))
           (c.written-what.ensures.entry n (flight starts past n) c.args.c) (c.written-what.ensures.did c.args.place) c.did.ensures
-          (c.starts_are.ensures starts c.settle.new.chip (entry ∷ past) stands) c.settle.ensures.unstopped c.settle.ensures.past c.settle.ensures.limit;
+          (c.starts_are.ensures starts c.settle.new.chip (entry ∷ past) stands) c.settle.ensures.unstopped c.settle.ensures.past c.settle.ensures.limit c.settle.ensures.events;
     }
 
 pub write-requires-clause-some : goal.write-requires-clause-some
