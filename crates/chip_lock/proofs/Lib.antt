@@ -1,1 +1,12 @@
 pub mod Keeping
+pub mod Sums
+pub mod Origins
+pub mod Moving
+pub mod Drawing
+pub mod Looking
+pub mod Leaving
+pub mod Splitting
+pub mod Joining
+pub mod Weaving
+pub mod Closing
+pub mod Making

@@ -1,4 +1,10 @@
 pub mod Overs
+pub mod Lists
+pub mod Causes
 pub mod Standing
 pub mod Turns
+pub mod Views
+pub mod Plays
+pub mod Rule
 pub mod Passes
+pub mod Seats

@@ -1,17 +1,12 @@
 -- The state between turns, and what always holds of it.
-use Rattle.std.specs.Prelude.{◌≡◌, ℕ, zero, suc, ◌+◌, ◌≤◌, ◌∷◌, length, Option, Some, None, true}
+use Rattle.std.specs.Prelude.{◌≡◌, ℕ, ◌+◌, ◌*◌, ◌≤◌, length, Option, Some, None, Bool, true}
 use Rattle.board_bus.specs.declared.event.BusEvent.{BusEvent}
-use Rattle.chip_sheet.specs.declared.event.Entry.TheVariants.{Rest}
 use Rattle.chip_sheet.specs.declared.stop.ChipStop.{ChipStop}
-use Rattle.chip_sheet.specs.Legal.{Legal}
 use Rattle.chip_sheet.specs.Past.{Past}
-use Rattle.chip_sheet.specs.Stops.{stop}
-use Rattle.chip_sheet.specs.Streams.{Starts}
+use Rattle.chip_sheet.specs.Windows.{most_read}
 use Rattle.chip_hist.specs.Log.{is_full, weight_of}
 use Rattle.chip_hist.specs.declared.limits.TheConstants.{MOST_EVENTS}
-use Rattle.link_trait.specs.Shown.{Shown}
 use Rattle.chip_shared.specs.State.{State}
-use Rattle.chip_shared.specs.Tied.{Tied}
 use Rattle.chip_lock.specs.declared.over.Over.{Over}
 use Rattle.chip_lock.specs.declared.over.Over.TheVariants.{Stopped, TraceFull}
 
@@ -21,38 +16,28 @@ pub record KeptState (L : Type 0) : Type 0 where
   pub cause : Option Over
   -- how many passes have not ended
   pub live : ℕ
+  -- the event of the bus that was asked last
+  pub last : BusEvent
 
--- A past with so many turns behind it in which nothing happened.
-abbrev pub rested : ℕ → Past → Past
-rested zero past = past
-rested (suc n) past = Rest ∷ rested n past
+abbrev pub past_of : {L : Type 0} → KeptState L → Past
+past_of k = k.state.log.past
 
--- An event was asked that has this stop after all that happened before; since then nothing happened.
-pub record WasFound (starts : Starts) (past : Past) (s : ChipStop) : Type 0 where
-  pub before : Past
-  pub event : BusEvent
-  pub rests : ℕ
-  pub since : past ≡ rested rests before
-  pub stops : stop starts before event ≡ Some s
+-- Whether a history that is meant to hold so much takes no more events of a run.
+abbrev pub is_full_at : ℕ → Past → Bool
+is_full_at limit past = is_full (record { past = past; spare_events = 0; spare_bytes = 0; limit = limit })
 
--- A stop that the chip keeps was found so.
-abbrev pub Finds : {L : Type 0} → State L → Type 0
-Finds now = (s : ChipStop) → now.stopped ≡ Some s → WasFound now.starts now.log.past s
-
--- What a cause says of the state: a stop of the chip is the cause, and one that is the cause was found; the history was full.
+-- What a cause says of the state: a stop of the chip is the cause, and the history is full where that is the cause.
 pub record Leaves {L : Type 0} (state : State L) (cause : Option Over) : Type 0 where
   pub stopped : (s : ChipStop) → state.stopped ≡ Some s → cause ≡ Some (Stopped s)
-  pub found : (s : ChipStop) → cause ≡ Some (Stopped s) → WasFound state.starts state.log.past s
   pub full : cause ≡ Some TraceFull → is_full state.log ≡ true
 
--- What always holds between turns. The history takes the last entry of each pass that has not ended.
+-- What always holds between turns. Each pass that has not ended finds room for its last entry, and while no cause is kept also for a
+-- turn before that one.
 pub record IsKept {L : Type 0} (state : State L) (cause : Option Over) (live : ℕ) : Type 0 where
   pub leaves : Leaves state cause
   pub light : weight_of state.log.past ≤ state.log.limit + 46
   pub short : length state.log.past + live ≤ MOST_EVENTS + 2
   pub few : live ≤ 2
-
--- The history is legal, and the links agree with it.
-pub record Stood {L : Type 0} (shown : L → Shown) (now : State L) : Type 0 where
-  pub legal : Legal now.starts now.log.past
-  pub tied : Tied now.starts now.log.past (shown now.links)
+  pub room : live ≤ state.log.spare_events
+  pub turn_room : cause ≡ None → 2 * live ≤ state.log.spare_events
+  pub data_room : cause ≡ None → live * most_read ≤ state.log.spare_bytes

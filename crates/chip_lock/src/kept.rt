@@ -1,23 +1,26 @@
 //! The state that turns hand on, with the cause that ended them: what one turn makes of it.
-ghost use Rattle.std.specs.Prelude.{◌≡◌, ◌<◌, ◌-◌, [], None, Some, IfOk, IfErr};
+ghost use Rattle.std.specs.Prelude.{◌≡◌, ◌<◌, ◌≤◌, ◌*◌, [], None, Some, IfOk, IfErr};
+ghost use Rattle.chip_sheet.specs.Windows.{most_read};
 ghost use Rattle.chip_lock.specs.declared.over.Over.{Over};
 ghost use Rattle.chip_lock.specs.declared.over.Over.TheVariants.{NoMemory};
 ghost use Rattle.chip_lock.specs.Overs.{IsGiven};
 ghost use Rattle.chip_shared.specs.State.{Keeps};
-ghost use Rattle.chip_shared.specs.Causes.{Does};
 
 use crate::over::{Over, over_by};
 use chip_shared::shared::{LinkDid, MOST_READ, Shared};
 use chip_sheet::event::{BusAnswer, BusEvent};
 use link_trait::links::Links;
+use std::alloc::Global;
 use std::marker::Model;
 
-/// The shared state, the first cause for which turns ended, and how many passes have not ended.
+/// The shared state, the first cause for which turns ended, how many passes have not ended, and the event that was asked last. The
+/// state stands in a box: a turn moves it out of the table and back.
 #[derive(Drop)]
 pub(crate) struct Kept<L: Links> {
-    shared: Shared<L>,
+    shared: Box<Shared<L>>,
     cause: Option<Over>,
     live: u64,
+    last: BusEvent,
 }
 
 impl<L: Links> Model for Kept<L> {
@@ -25,64 +28,69 @@ impl<L: Links> Model for Kept<L> {
 
     ghost Value = { KeptState L };
 
-    ghost view = { λ k. record { state = k.shared; cause = k.cause; live = k.live } };
+    ghost view = { λ k. record { state = k.shared.value; cause = k.cause; live = k.live; last = k.last } };
 
-    ghost invariant = { λ k. IsKept k.shared k.cause k.live };
+    ghost invariant = { λ k. IsKept k.shared.value k.cause k.live };
+}
+
+/// Makes room for the next turns of so many passes. Where there is no memory for it, that is a cause to end.
+fn renew<L: Links>(shared: &mut Shared<L>, live: u64) -> Option<Over>
+    requires { live ≤ 2 }
+    ensures keeps { Keeps shared.old shared.new }
+    ensures stopped { shared.new.stopped ≡ shared.old.stopped }
+    ensures room { result ≡ None → 2 * live ≤ shared.new.log.spare_events }
+    ensures data_room { result ≡ None → live * most_read ≤ shared.new.log.spare_bytes }
+    ensures dry { (c : Over) → result ≡ Some c → c ≡ NoMemory }
+{
+    match shared.reserve(2 * live, live * MOST_READ as u64) {
+        Ok(()) => None,
+        Err(_) => Some(Over::NoMemory),
+    }
 }
 
 impl<L: Links> Kept<L> {
-    ghost use Rattle.chip_lock.specs.Standing.{KeptState, Stood, Finds};
-    ghost use Rattle.chip_lock.specs.Turns.{BusTurn, LinkTurn, EndTurn};
+    ghost use Rattle.chip_lock.specs.Standing.{Leaves};
+    ghost use Rattle.chip_lock.specs.Turns.{TakesOne, BusTurn, LinkTurn, EndTurn, FindsWith, FindsNone, GivesNone};
 
     /// Before the first turn: neither pass has ended, and each has room for a turn and for its last entry.
     ///
     /// # Errors
     ///
-    /// The state again, where memory for that room is missing.
-    pub(crate) fn new(mut shared: Shared<L>) -> Result<Kept<L>, Shared<L>>
+    /// The state again, where memory for that room or for its box is missing.
+    pub(crate) fn new(alloc: Global, mut shared: Shared<L>) -> Result<Kept<L>, Shared<L>>
         requires past { shared.log.past ≡ [] }
         requires unstopped { shared.stopped ≡ None }
         ensures ok { IfOk result (λ k. Keeps shared k.state) }
+        ensures uncaused { IfOk result (λ k. k.cause ≡ None) }
+        ensures live { IfOk result (λ k. k.live ≡ 2) }
         ensures err { IfErr result (λ s. Keeps shared s) }
     {
-        if shared.reserve(4, 2 * MOST_READ as u64).is_err() {
+        if renew(&mut shared, 2).is_some() {
             return Err(shared);
         }
-        Ok(Kept {
-            shared,
-            cause: None,
-            live: 2,
-        })
-    }
-
-    /// Makes room for the next turns; where there is no memory for it, they end.
-    fn renew(&mut self)
-        requires { self.old.cause ≡ None }
-        ensures keeps { Keeps self.old.state self.new.state }
-        ensures stopped { self.new.state.stopped ≡ self.old.state.stopped }
-    {
-        let events = 2 * self.live;
-        let bytes = self.live * MOST_READ as u64;
-        if self.shared.reserve(events, bytes).is_err() {
-            self.cause = Some(Over::NoMemory);
+        match Box::new(alloc, shared) {
+            Ok(shared) => Ok(Kept {
+                shared,
+                cause: None,
+                live: 2,
+                last: BusEvent::Look,
+            }),
+            Err(refused) => Err(refused.value),
         }
     }
 
     /// A turn with which its pass ends, for the cause that is kept, or for this one where none is.
     pub(crate) fn end(&mut self, why: Over) -> Over
+        requires live { 0 < self.old.live }
         requires given { self.old.cause ≡ None → IsGiven why }
         ensures turn { EndTurn self.old why result self.new }
-        ensures stood { Stood L.shown self.old.state }
+        ensures takes { TakesOne self.old self.new }
+        ensures finds { FindsNone self.old.cause self.new.cause }
     {
-        self.shared.keeps();
+        self.shared.rest();
         let kept = self.cause.unwrap_or(why);
         self.cause = Some(kept);
-        if 0 < self.live {
-            self.live -= 1;
-            if self.shared.reserve(1, 0).is_ok() {
-                self.shared.rest();
-            }
-        }
+        self.live -= 1;
         kept
     }
 
@@ -92,16 +100,19 @@ impl<L: Links> Kept<L> {
     ///
     /// The cause with which the pass ends: the one that is kept, or the one for which the step was refused.
     pub(crate) fn bus(&mut self, e: BusEvent) -> Result<BusAnswer, Over>
+        requires { 0 < self.old.live }
         ensures turn { BusTurn self.old e result self.new }
-        ensures stood { Stood L.shown self.old.state }
+        ensures takes { TakesOne self.old self.new }
+        ensures finds { FindsWith e self.old self.new }
+        ensures gives { GivesNone self.old.cause self.new.cause }
     {
-        self.shared.keeps();
         if let Some(why) = self.cause {
             return Err(self.end(why));
         }
+        self.last = e;
         match self.shared.bus_step(e) {
             Ok(a) => {
-                self.renew();
+                self.cause = renew(&mut *self.shared, self.live);
                 Ok(a)
             }
             Err(end) => {
@@ -118,17 +129,19 @@ impl<L: Links> Kept<L> {
     ///
     /// The cause with which the pass ends: the one that is kept, or the one for which the step was refused.
     pub(crate) fn link(&mut self, from: u8) -> Result<LinkDid, Over>
-        requires { from < 16 }
-        ensures turn { LinkTurn (Does L.effect L.shown) self.old from result self.new }
-        ensures stood { Stood L.shown self.old.state }
+        requires live { 0 < self.old.live }
+        requires place { from < 16 }
+        ensures turn { LinkTurn self.old from result self.new }
+        ensures takes { TakesOne self.old self.new }
+        ensures finds { FindsNone self.old.cause self.new.cause }
+        ensures gives { GivesNone self.old.cause self.new.cause }
     {
-        self.shared.keeps();
         if let Some(why) = self.cause {
             return Err(self.end(why));
         }
         match self.shared.link_step(from) {
             Ok(did) => {
-                self.renew();
+                self.cause = renew(&mut *self.shared, self.live);
                 Ok(did)
             }
             Err(end) => {
@@ -142,13 +155,14 @@ impl<L: Links> Kept<L> {
     /// The state alone.
     pub(crate) fn into_shared(self) -> Shared<L>
         ensures value { result ≡ self.state }
-        ensures found { Finds result }
+        ensures leaves { Leaves self.state self.cause }
     {
         let Kept {
             shared,
             cause: _,
             live: _,
+            last: _,
         } = self;
-        shared
+        Box::into_inner(shared)
     }
 }

@@ -3,6 +3,7 @@ ghost use Rattle.std.specs.Prelude.{◌≡◌};
 ghost use Rattle.chip_lock.specs.Overs.{over_by};
 
 use chip_shared::shared::StepEnd;
+use chip_sheet::event::BusEvent;
 use chip_sheet::stop::ChipStop;
 
 /// Why turns have ended.
@@ -18,6 +19,16 @@ pub enum Over {
     PollFault,
     /// The run was over.
     Finished,
+}
+
+/// A stop that a turn found, as contracts see it. No value of it is made.
+pub struct Found {
+    /// How many entries the history had before that turn.
+    pub place: u64,
+    /// The event that was asked.
+    pub event: BusEvent,
+    /// The stop that it has there.
+    pub stop: ChipStop,
 }
 
 /// The cause that a refused step gives.
