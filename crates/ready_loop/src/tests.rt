@@ -1,10 +1,12 @@
 //! Links without peers, and a poller that fails by a list.
+ghost use Rattle.std.specs.Prelude.{◌≡◌};
 
 use crate::ready::run_ready;
 use chip_core::Chip;
 use chip_hist::History;
 use chip_lock::over::Over;
-use chip_lock::turn::{Pass, Turn};
+use chip_lock::pass::Pass;
+use chip_lock::turn::Turn;
 use chip_shared::shared::Shared;
 use chip_sheet::event::{BusEvent, Event};
 use link_script::ScriptLinks;
@@ -44,7 +46,10 @@ fn send_frame<R: Wait + Abort>(
     turn: &Turn<ScriptLinks>,
     pass: &mut Pass<ScriptLinks>,
     frame: &[u8; 4],
-) {
+)
+    requires { pass.old.turn ≡ turn.now }
+    ensures { pass.new.turn ≡ turn.now }
+{
     assert!(rt; turn.bus(rt, pass, BusEvent::Select(true)).is_ok());
     for byte in frame {
         assert!(rt; turn.bus(rt, pass, BusEvent::Byte(*byte)).is_ok());
@@ -66,7 +71,7 @@ fn serves_until_a_wait_fails_or_the_turns_are_over(rt: HostRuntime) {
         let chip = Chip::new(alloc, 0, 0).expect(&rt, "memory");
         let script = ScriptLinks::new(alloc, Vec::new(alloc)).expect(&rt, "memory");
         let shared = Shared::new(chip, History::new(alloc, 1000), script);
-        let Ok((turn, mut firmware, mut links)) = Turn::start(shared) else {
+        let Ok((turn, mut firmware, mut links)) = Turn::start(alloc, shared) else {
             panic!(rt; "memory")
         };
         if connects {
