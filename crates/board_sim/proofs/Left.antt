@@ -41,15 +41,15 @@ ran_whole ends.NoMemory cycles image b s left old new fault memory it = absurd (
 ran_whole end cycles image b s left old new fault memory it = it
 
 -- What comes behind it, by its end.
-behind_fault : (end : RunEnd) (text : List ℕ) (result : RunEnd) (old new : Option (List ℕ)) → end ≡ ends.WriteFault → ReportsBehind end text result old new
+pub behind_fault : (end : RunEnd) (text : List ℕ) (result : RunEnd) (old new : Option (List ℕ)) → end ≡ ends.WriteFault → ReportsBehind end text result old new
     → (result ≡ ends.WriteFault) × (new ≡ old)
 behind_fault end text result old new is it = rw is at it
 
-behind_none : (end : RunEnd) (text : List ℕ) (result : RunEnd) (old new : Option (List ℕ)) → end ≡ ends.NoMemory → ReportsBehind end text result old new
+pub behind_none : (end : RunEnd) (text : List ℕ) (result : RunEnd) (old new : Option (List ℕ)) → end ≡ ends.NoMemory → ReportsBehind end text result old new
     → (result ≡ ends.NoMemory) × (new ≡ old)
 behind_none end text result old new is it = rw is at it
 
-behind_some : (end : RunEnd) (text : List ℕ) (result : RunEnd) (old new : Option (List ℕ)) → (end ≡ ends.WriteFault → ⊥) → (end ≡ ends.NoMemory → ⊥) → ReportsBehind end text result old new
+pub behind_some : (end : RunEnd) (text : List ℕ) (result : RunEnd) (old new : Option (List ℕ)) → (end ≡ ends.WriteFault → ⊥) → (end ≡ ends.NoMemory → ⊥) → ReportsBehind end text result old new
     → Reports end text result old new
 behind_some ends.WriteFault text result old new fault memory it = absurd (fault refl)
 behind_some ends.NoMemory text result old new fault memory it = absurd (memory refl)
@@ -62,13 +62,13 @@ some_behind ends.NoMemory text result old new fault memory it = absurd (memory r
 some_behind end text result old new fault memory it = it
 
 -- A text behind a run, by the last end.
-reports_fault : (end : RunEnd) (text : List ℕ) (result : RunEnd) (old new : Option (List ℕ)) → result ≡ ends.WriteFault → Reports end text result old new → AppendsFront old text new
+pub reports_fault : (end : RunEnd) (text : List ℕ) (result : RunEnd) (old new : Option (List ℕ)) → result ≡ ends.WriteFault → Reports end text result old new → AppendsFront old text new
 reports_fault end text result old new is it = rw is at it
 
-reports_none : (end : RunEnd) (text : List ℕ) (result : RunEnd) (old new : Option (List ℕ)) → result ≡ ends.NoMemory → Reports end text result old new → AppendsFront old text new
+pub reports_none : (end : RunEnd) (text : List ℕ) (result : RunEnd) (old new : Option (List ℕ)) → result ≡ ends.NoMemory → Reports end text result old new → AppendsFront old text new
 reports_none end text result old new is it = rw is at it
 
-reports_whole : (end : RunEnd) (text : List ℕ) (result : RunEnd) (old new : Option (List ℕ)) → (result ≡ ends.WriteFault → ⊥) → (result ≡ ends.NoMemory → ⊥) → Reports end text result old new
+pub reports_whole : (end : RunEnd) (text : List ℕ) (result : RunEnd) (old new : Option (List ℕ)) → (result ≡ ends.WriteFault → ⊥) → (result ≡ ends.NoMemory → ⊥) → Reports end text result old new
     → (result ≡ end) × Appends old text new
 reports_whole end text ends.WriteFault old new fault memory it = absurd (fault refl)
 reports_whole end text ends.NoMemory old new fault memory it = absurd (memory refl)
@@ -110,7 +110,7 @@ report_behind end by result starts p p' last cycles trail old mid new fault none
     (subst (λ (x : Past). Reports end (report_of starts x last cycles trail end) by old mid) same it)))
 
 -- Counts of faults.
-still_rises : (P : Type 0) (n : ℕ) → (P → ⊥) → RisesOnly P n n
+pub still_rises : (P : Type 0) (n : ℕ) → (P → ⊥) → RisesOnly P n n
 still_rises P n never = record { later = omega arith; rose = λ it. absurd (never it); still = λ other. refl }
 
 pub same_rises : (P Q : Type 0) (before now : ℕ) → (P → Q) → (Q → P) → RisesOnly P before now → RisesOnly Q before now
@@ -159,7 +159,7 @@ sim_none image setup r old mid new ran none same =
     (λ not_fault not_none. absurd (not_none none))
 
 -- Its run is whole, and its report comes behind it.
-report_same : (a a' : Starts) (p p' : Past) (l l' : Option ℕ) (c c' : ℕ) (t t' : List ℕ) (e e' : RunEnd) → a ≡ a' → p ≡ p' → l ≡ l' → c ≡ c' → t ≡ t' → e ≡ e'
+pub report_same : (a a' : Starts) (p p' : Past) (l l' : Option ℕ) (c c' : ℕ) (t t' : List ℕ) (e e' : RunEnd) → a ≡ a' → p ≡ p' → l ≡ l' → c ≡ c' → t ≡ t' → e ≡ e'
     → report_of a p l c t e ≡ report_of a' p' l' c' t' e'
 report_same a a' p p' l l' c c' t t' e e' h0 h1 h2 h3 h4 h5 = cc
 
@@ -281,7 +281,7 @@ left_holds setup s seat r before after from left causes = record {
 }
 
 -- The count of faults, behind the run and behind its report.
-both_causes : (end result : RunEnd) (text : List ℕ) (before mid after : ℕ) (old new : Option (List ℕ)) → RisesOnly (end ≡ ends.WriteFault) before mid
+pub both_causes : (end result : RunEnd) (text : List ℕ) (before mid after : ℕ) (old new : Option (List ℕ)) → RisesOnly (end ≡ ends.WriteFault) before mid
     → ((end ≡ ends.WriteFault → ⊥) → RisesOnly (result ≡ ends.WriteFault) mid after) → (end ≡ ends.WriteFault → after ≡ mid) → ReportsBehind end text result old new
     → RisesOnly (result ≡ ends.WriteFault) before after
 both_causes end result text before mid after old new first second stays it =

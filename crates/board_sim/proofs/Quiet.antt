@@ -23,12 +23,12 @@ pub record Same (a b : Board) : Type 0 where
   pub events : b.events ≡ a.events
 
 -- No event of the bus.
-abbrev IsQuiet : Entry → Type 0
+abbrev pub IsQuiet : Entry → Type 0
 IsQuiet (Bus e a) = ⊥
 IsQuiet (Link n what) = Unit {0}
 IsQuiet Rest = Unit {0}
 
-quiet_by : (n flight : ℕ) (call : Due) (answer : LinkAnswer) → IsQuiet (entry_by n flight call answer)
+pub quiet_by : (n flight : ℕ) (call : Due) (answer : LinkAnswer) → IsQuiet (entry_by n flight call answer)
 quiet_by n flight (due.Connect c to) Done = tt
 quiet_by n flight (due.Accept c port) (DoneFrom from) = tt
 quiet_by n flight (due.Write c) (DoneWith count) = tt
@@ -45,12 +45,12 @@ quiet_by n flight call End = tt
 quiet_by n flight call Failed = tt
 quiet_by n flight call answer = tt
 
-asked_quiet : (entry : Entry) (past : Past) → IsQuiet entry → asked_of (entry ∷ past) ≡ asked_of past
+pub asked_quiet : (entry : Entry) (past : Past) → IsQuiet entry → asked_of (entry ∷ past) ≡ asked_of past
 asked_quiet (Bus e a) past it = absurd it
 asked_quiet (Link n what) past it = refl
 asked_quiet Rest past it = refl
 
-answers_quiet : (entry : Entry) (past : Past) → IsQuiet entry → answers_of (entry ∷ past) ≡ answers_of past
+pub answers_quiet : (entry : Entry) (past : Past) → IsQuiet entry → answers_of (entry ∷ past) ≡ answers_of past
 answers_quiet (Bus e a) past it = absurd it
 answers_quiet (Link n what) past it = refl
 answers_quiet Rest past it = refl

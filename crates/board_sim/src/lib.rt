@@ -6,6 +6,7 @@
 pub mod end;
 pub mod laws;
 mod nowhere;
+pub mod output;
 mod peer;
 mod play;
 pub mod report;

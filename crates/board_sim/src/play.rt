@@ -8,11 +8,12 @@ ghost use Rattle.board_sim.specs.Seats.{seen, wanted_of, IsWell};
 ghost use Rattle.avr_run.specs.Told.{EndWants};
 ghost use Rattle.avr_mcu.specs.declared.run.RunEnd as firmware;
 
+use crate::output::put;
 use crate::peer::{BoardPeer, SWEEP_STEPS};
 use avr_mcu::Mcu;
 use avr_run::{RunEnd as FirmwareEnd, take_stretch, take_turn};
 use chip_shared::shared::StepEnd;
-use wz_base::{Failed, Sink};
+use wz_base::Sink;
 
 /// What cuts a run.
 #[derive(Clone, Copy, Debug, PartialEq, Eq)]
@@ -38,22 +39,6 @@ pub struct Play {
     pub(crate) cycles: u64,
     /// The last byte that it printed.
     pub(crate) last: Option<u8>,
-}
-
-/// Writes a byte, if there is one, at once.
-fn put<K: Sink>(out: &mut K, byte: Option<u8>) -> Result<(), Failed>
-    ensures ok { OnOk result (Appends (K.written out.old) (byte_of byte) (K.written out.new)) }
-    ensures err { OnErr result (K.written out.new ≡ K.written out.old) }
-    ensures byte { OnErr result ((v : ℕ) × (byte ≡ Some v)) }
-    ensures faults { RisesOnly (IsErr result) (K.faults out.old) (K.faults out.new) }
-{
-    match byte {
-        Some(byte) => match out.write(&[byte]) {
-            Ok(_) => Ok(()),
-            Err(failed) => Err(failed),
-        },
-        None => Ok(()),
-    }
 }
 
 impl Play {

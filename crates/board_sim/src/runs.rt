@@ -18,9 +18,9 @@ ghost use Rattle.board_sim.specs.Traced.{trace_text};
 
 use crate::end::{RunEnd, SimEnd};
 use crate::nowhere::Nowhere;
+use crate::output::write_report;
 use crate::peer::BoardPeer;
 use crate::play::{Cut, Play};
-use crate::report::report;
 use crate::trace::{TraceError, write_trace};
 use avr_mcu::Mcu;
 use avr_run::RunEnd as FirmwareEnd;
@@ -123,30 +123,6 @@ fn run<K: Sink>(play: &mut Play, out: &mut K) -> RunEnd
 {
     let cut = play.go(out);
     finish(&mut play.board, cut)
-}
-
-/// Writes the report of a run that ended so.
-fn write_report<K: Sink>(
-    alloc: Global,
-    chip: &Chip,
-    history: &History,
-    mcu: &Mcu,
-    last: Option<u8>,
-    end: RunEnd,
-    out: &mut K,
-) -> RunEnd
-    requires { end ≡ RunEnd.WriteFault → ⊥ }
-    ensures reports { (starts : Starts) → Stands starts chip.now history.now.past
-        → Reports end (report_of starts history.now.past last mcu.now.devices.cycles mcu.now.trail end) result (K.written out.old) (K.written out.new) }
-    ensures faults { RisesOnly (result ≡ RunEnd.WriteFault) (K.faults out.old) (K.faults out.new) }
-{
-    match report(alloc, chip, history, mcu, last, end) {
-        Ok(text) => match write_all(out, text.as_bytes()) {
-            Ok(()) => end,
-            Err(WriteError::WriteFault) => RunEnd::WriteFault,
-        },
-        Err(AllocError) => RunEnd::NoMemory,
-    }
 }
 
 /// What a run leaves that ended so, with its report where one is due.

@@ -2,7 +2,7 @@ use Rattle.std.proofs.Common.{List, ℕ, ◌∙◌, subst}
 use Rattle.wz_base.specs.Whole.{Appends, AppendsFront}
 use Rattle.board_sim.proofs.Left.{whole_reports}
 use Rattle.board_sim.specs.Report.{report_of}
-use Rattle.board_sim.proofs.runs.write_report.Goals as goal
+use Rattle.board_sim.proofs.output.write_report.Goals as goal
 
 pub returns-in-Ok-write_all-clause-reports : goal.returns-in-Ok-write_all-clause-reports
 returns-in-Ok-write_all-clause-reports g c = λ starts stands.
