@@ -1,0 +1,7 @@
+pub mod Wires
+pub mod Sides
+pub mod Going
+pub mod Ran
+pub mod Closing
+pub mod Lives
+pub mod Leaving
