@@ -2,3 +2,6 @@ mod Causes
 mod Scheduled
 mod Reported
 mod Shown
+mod Loaded
+mod Answered
+mod Topped

@@ -1,5 +1,5 @@
 -- What follows of what the words come to.
-use Rattle.std.proofs.Common.{◌≡◌, ◌≢◌, ℕ, true, List, Option, None, Some, IfSome, Result, Ok, Err, MatchResult, refl, sym, ap, ◌∙◌, subst}
+use Rattle.std.proofs.Common.{◌≡◌, ◌≢◌, ℕ, true, List, [], Option, None, Some, IfSome, Result, Ok, Err, refl, sym, ap, ◌∙◌, subst}
 use Rattle.std.specs.Option.{IsSome}
 use Rattle.chip_sheet.specs.Past.{Past}
 use Rattle.chip_sheet.specs.Legal.{Legal}
@@ -35,12 +35,16 @@ use Rattle.wz_board.specs.declared.words.TextCommand.TheVariants as texts
 use Rattle.wz_board.specs.declared.words.BoardCommand.{BoardCommand}
 use Rattle.wz_board.specs.declared.words.BoardCommand.TheVariants as boards
 use Rattle.wz_board.specs.Checked.{beside, judged, judged_image, with_board}
-use Rattle.wz_board.specs.Reads.{Counts, Reading, WasRead}
-use Rattle.wz_board.specs.Words.{Asked, OnText, OnBoard, Gen, Help}
-use Rattle.wz_board.specs.Outcome.{Outcome, end_of, end_of_judge, listed_outcome, on_reading, text_outcome, unread, asks_run, IsLegal, Ran, RanBoard, RanBoth, RanJudged, Reports, Shows}
+use Rattle.wz_board.specs.declared.loading.LoadError.{LoadError}
+use Rattle.wz_board.specs.declared.loading.LoadError.TheVariants as loads
+use Rattle.wz_board.specs.Loads.{both_of, or_refused, unread, ReadsBoth}
+use Rattle.wz_board.specs.Reads.{Counts, Reading}
+use Rattle.wz_board.specs.Words.{Asked, Run, OnText, OnBoard, Gen, Help}
+use Rattle.wz_board.specs.Outcome.{Outcome, at_rest, end_of, end_of_judge, listed_outcome, refused, text_outcome, asks_run, IsLegal, Ran, RanBoard, RanBoth, RanText, RanUnloaded, Reports, Shows}
 use Rattle.wz_board.specs.Runs.{end_of_run, IsOfRun, IsTied, KeepsRun, RanSim, ShowsRun}
 use Rattle.wz_board.proofs.Causes.{rose_since}
 use Rattle.wz_board.proofs.Scheduled.{no_poll, run_end}
+use Rattle.wz_board.proofs.Shown.{none_ran}
 
 -- an end that the texts of the operands give
 abbrev IsOfTexts : EndKind → Type 0
@@ -73,6 +77,12 @@ text_ends texts.Bus text = script_ends (shown_script text).end
 text_ends texts.Judge text = judge_ends (shown_trace text).end
 text_ends texts.List text = list_ends text (fault_in text)
 
+abbrev not_loaded : LoadError → Result (List ℕ × Setup) LoadError
+not_loaded error = Err error
+
+err_is : (e f : LoadError) → not_loaded e ≡ not_loaded f → e ≡ f
+err_is e f is = cc
+
 -- a refusal is that of the outcome
 outcome_ends : (o : Outcome) (end : EndKind) (past : Past) (old new : Option (List ℕ)) (refusal : Refusal) → Shows o end past old new → end ≡ Refused refusal → o.end ≡ Refused refusal
 outcome_ends o WriteFault past old new refusal it is = cc
@@ -83,134 +93,151 @@ outcome_ends o end past old new refusal it is = sym it.0 ∙ is
 ran_ends : (o : Outcome) (r : QuickEnd) (old new : Option (List ℕ)) (faults faults' : ℕ) (refusal : Refusal) → Ran o r old new faults faults' → r.end ≡ Refused refusal → o.end ≡ Refused refusal
 ran_ends o r old new faults faults' refusal ran is = outcome_ends o r.end r.history.past old new refusal ran.shows is
 
-shows_of_texts : (o : Outcome) (end : EndKind) (past : Past) (old new : Option (List ℕ)) → IsOfTexts o.end → Shows o end past old new → IsOfTexts end
-shows_of_texts o WriteFault past old new of_texts it = tt
-shows_of_texts o NoMemory past old new of_texts it = tt
-shows_of_texts o end past old new of_texts it = subst IsOfTexts (sym it.0) of_texts
+-- an end that is no refusal
+abbrev IsUnrefused : EndKind → Type 0
+IsUnrefused (Refused refusal) = ⊥
+IsUnrefused end = Unit {0}
 
-ran_of_texts : (o : Outcome) (r : QuickEnd) (old new : Option (List ℕ)) (faults faults' : ℕ) → IsOfTexts o.end → Ran o r old new faults faults' → IsOfTexts r.end
-ran_of_texts o r old new faults faults' of_texts ran = shows_of_texts o r.end r.history.past old new of_texts ran.shows
-
-run_ends : (e : RunEnd) → IsOfTexts (end_of_run e)
+run_ends : (e : RunEnd) → IsUnrefused (end_of_run e)
 run_ends runs.Break = tt
 run_ends e = tt
 
-run_of_texts : (cut : Type 0) (o : schedule.Outcome) (text : List ℕ) (end : EndKind) (past : Past) (script : Option ScriptLinks) (old new : Option (List ℕ)) → ShowsRun cut o text end past script old new → IsOfTexts end
-run_of_texts cut o text end past script old new it =
+-- a run ends by no refusal
+pub run_unrefused : (end : EndKind) (e : RunEnd) (refusal : Refusal) → end ≡ end_of_run e → end ≢ Refused refusal
+run_unrefused end e refusal is same = subst IsUnrefused (sym is ∙ same) (run_ends e)
+
+shown_unrefused : (cut : Type 0) (o : schedule.Outcome) (text : List ℕ) (end : EndKind) (past : Past) (script : Option ScriptLinks) (old new : Option (List ℕ)) (refusal : Refusal)
+    → ShowsRun cut o text end past script old new → end ≢ Refused refusal
+shown_unrefused cut o text end past script old new refusal it =
     let of = run_end cut o text end past script old new it in
-    subst IsOfTexts (sym of.1) (run_ends of.0)
+    run_unrefused end of.0 refusal of.1
 
-sim_ends : (image : List ℕ) (setup : Setup) (r : QuickEnd) (old new : Option (List ℕ)) (faults faults' : ℕ) → RanSim image setup r old new faults faults' → IsOfTexts r.end
-sim_ends image setup r old new faults faults' ran = run_of_texts _ _ _ r.end _ _ old new ran.shows
+sim_unrefused : (image : List ℕ) (setup : Setup) (r : QuickEnd) (old new : Option (List ℕ)) (faults faults' : ℕ) (refusal : Refusal) → RanSim image setup r old new faults faults' → r.end ≢ Refused refusal
+sim_unrefused image setup r old new faults faults' refusal ran = shown_unrefused _ _ _ r.end _ _ old new refusal ran.shows
 
-both_ends : (what : BoardCommand) (image : List ℕ) (setup : Setup) (r : QuickEnd) (old new : Option (List ℕ)) (faults faults' : ℕ) → RanBoth what image setup r old new faults faults' → IsOfTexts r.end
-both_ends boards.Sim image setup r old new faults faults' ran = sim_ends image setup r old new faults faults' ran
-both_ends boards.Trace image setup r old new faults faults' ran = run_of_texts _ _ _ r.end _ _ old new ran.shows
-both_ends boards.Check image setup r old new faults faults' ran = ran_of_texts _ r old new faults faults' tt ran
+both_unrefused : (what : BoardCommand) (image : List ℕ) (setup : Setup) (r : QuickEnd) (old new : Option (List ℕ)) (faults faults' : ℕ) (refusal : Refusal) → RanBoth what image setup r old new faults faults'
+    → r.end ≢ Refused refusal
+both_unrefused boards.Sim image setup r old new faults faults' refusal ran is = sim_unrefused image setup r old new faults faults' refusal ran is
+both_unrefused boards.Trace image setup r old new faults faults' refusal ran is = shown_unrefused _ _ _ r.end _ _ old new refusal ran.shows is
+both_unrefused boards.Check image setup r old new faults faults' refusal ran is = cc (ran_ends _ r old new faults faults' refusal ran is)
 
-beside_ends : (what : BoardCommand) (image : List ℕ) (setup : Result Setup BoardFault) (r : QuickEnd) (old new : Option (List ℕ)) (faults faults' : ℕ)
-    → RanJudged what (beside image setup) r old new faults faults' → IsOfTexts r.end
-beside_ends what image (Ok setup) r old new faults faults' ran = both_ends what image setup r old new faults faults' ran
-beside_ends what image (Err fault) r old new faults faults' ran = ran_of_texts _ r old new faults faults' tt ran
+-- a refusal of operands that were not loaded
+pub unloaded_refused : (error : LoadError) (r : QuickEnd) (old new : Option (List ℕ)) (faults faults' : ℕ) (refusal : Refusal) → RanUnloaded error r old new faults faults' → r.end ≡ Refused refusal
+    → error ≡ loads.Refused refusal
+unloaded_refused (loads.Refused found) r old new faults faults' refusal ran is = cc (ran_ends (refused found) r old new faults faults' refusal ran is)
+unloaded_refused loads.NoMemory r old new faults faults' refusal ran is = cc (sym ran.end ∙ is)
 
-with_ends : (what : BoardCommand) (text : List ℕ) (fault : Option HexFault) (board : List ℕ) (r : QuickEnd) (old new : Option (List ℕ)) (faults faults' : ℕ)
-    → RanJudged what (with_board (judged_image text fault) board) r old new faults faults' → IsOfTexts r.end
-with_ends what text None board r old new faults faults' ran = beside_ends what _ (board_of board) r old new faults faults' ran
-with_ends what text (Some fault) board r old new faults faults' ran = ran_of_texts _ r old new faults faults' tt ran
-
-board_ends : (what : BoardCommand) (image board : List ℕ) (r : QuickEnd) (old new : Option (List ℕ)) (faults faults' : ℕ) → RanJudged what (judged image board) r old new faults faults' → IsOfTexts r.end
-board_ends what image board r old new faults faults' ran = with_ends what image (fault_in image) board r old new faults faults' ran
+board_refused : (what : BoardCommand) (loaded : Result (List ℕ × Setup) LoadError) (r : QuickEnd) (old new : Option (List ℕ)) (faults faults' : ℕ) (refusal : Refusal)
+    → RanBoard what loaded r old new faults faults' → r.end ≡ Refused refusal → loaded ≡ Err (loads.Refused refusal)
+board_refused what (Ok both) r old new faults faults' refusal ran is = absurd (both_unrefused what both.0 both.1 r old new faults faults' refusal ran is)
+board_refused what (Err error) r old new faults faults' refusal ran is = ap Err (unloaded_refused error r old new faults faults' refusal ran is)
 
 -- what was not read, by its refusal
-no_file : (operand of : ℕ) (e : ReadError) → (unread of e).end ≡ Refused (refusals.NoFile operand) → e ≡ errors.NoFile
+no_file : (operand of : ℕ) (e : ReadError) → unread of e ≡ loads.Refused (refusals.NoFile operand) → e ≡ errors.NoFile
 no_file operand of errors.NoFile is = refl
 no_file operand of errors.ReadFault is = cc
 no_file operand of errors.TooLong is = cc
 no_file operand of errors.NoMemory is = cc
 
-read_fault : (operand of : ℕ) (e : ReadError) → (unread of e).end ≡ Refused (refusals.ReadFault operand) → e ≡ errors.ReadFault
+read_fault : (operand of : ℕ) (e : ReadError) → unread of e ≡ loads.Refused (refusals.ReadFault operand) → e ≡ errors.ReadFault
 read_fault operand of errors.NoFile is = cc
 read_fault operand of errors.ReadFault is = refl
 read_fault operand of errors.TooLong is = cc
 read_fault operand of errors.NoMemory is = cc
 
-text_missed : (operand : ℕ) (what : TextCommand) (reading : Reading) → (on_reading what reading).end ≡ Refused (refusals.NoFile operand) → reading ≡ Err errors.NoFile
-text_missed operand what (Ok text) is = absurd (subst IsOfTexts is (text_ends what text))
-text_missed operand what (Err e) is = ap Err (no_file operand 1 e is)
+no_usage : (of : ℕ) (e : ReadError) → unread of e ≢ loads.Refused refusals.Usage
+no_usage of errors.NoFile is = cc
+no_usage of errors.ReadFault is = cc
+no_usage of errors.TooLong is = cc
+no_usage of errors.NoMemory is = cc
 
-text_failed : (operand : ℕ) (what : TextCommand) (reading : Reading) → (on_reading what reading).end ≡ Refused (refusals.ReadFault operand) → reading ≡ Err errors.ReadFault
-text_failed operand what (Ok text) is = absurd (subst IsOfTexts is (text_ends what text))
-text_failed operand what (Err e) is = ap Err (read_fault operand 1 e is)
+text_missed : (operand : ℕ) (what : TextCommand) (reading : Reading) (r : QuickEnd) (old new : Option (List ℕ)) (faults faults' : ℕ) → RanText what reading r old new faults faults'
+    → r.end ≡ Refused (refusals.NoFile operand) → reading ≡ Err errors.NoFile
+text_missed operand what (Ok text) r old new faults faults' ran is = absurd (subst IsOfTexts (ran_ends _ r old new faults faults' _ ran is) (text_ends what text))
+text_missed operand what (Err e) r old new faults faults' ran is = ap Err (no_file operand 1 e (unloaded_refused (unread 1 e) r old new faults faults' _ ran is))
 
-board_missed : (files : Option (List ℕ → Option (List ℕ))) (before between after : Counts) (what : BoardCommand) (image board : List ℕ) (first second : Reading) (operand : ℕ)
-    → (r : QuickEnd) (old new : Option (List ℕ)) (faults faults' : ℕ) → WasRead files image before between first
-    → MatchResult first (λ text. WasRead files board between after second) (λ e. after ≡ between) → RanBoard what first second r old new faults faults' → r.end ≡ Refused (refusals.NoFile operand)
-    → Rose before.misses after.misses
-board_missed files before between after what image board (Err e) second operand r old new faults faults' one two ran is =
-    subst (λ (c : Counts). Rose before.misses c.misses) (sym two) (one.missed.rose (ap Err (no_file operand 1 e (ran_ends _ r old new faults faults' _ ran is))))
-board_missed files before between after what image board (Ok text) (Ok more) operand r old new faults faults' one two ran is =
-    absurd (subst IsOfTexts is (board_ends what text more r old new faults faults' ran))
-board_missed files before between after what image board (Ok text) (Err e) operand r old new faults faults' one two ran is =
-    rose_since before.misses between.misses after.misses one.missed.later (two.missed.rose (ap Err (no_file operand 2 e (ran_ends _ r old new faults faults' _ ran is))))
+text_failed : (operand : ℕ) (what : TextCommand) (reading : Reading) (r : QuickEnd) (old new : Option (List ℕ)) (faults faults' : ℕ) → RanText what reading r old new faults faults'
+    → r.end ≡ Refused (refusals.ReadFault operand) → reading ≡ Err errors.ReadFault
+text_failed operand what (Ok text) r old new faults faults' ran is = absurd (subst IsOfTexts (ran_ends _ r old new faults faults' _ ran is) (text_ends what text))
+text_failed operand what (Err e) r old new faults faults' ran is = ap Err (read_fault operand 1 e (unloaded_refused (unread 1 e) r old new faults faults' _ ran is))
 
-board_failed : (files : Option (List ℕ → Option (List ℕ))) (before between after : Counts) (what : BoardCommand) (image board : List ℕ) (first second : Reading) (operand : ℕ)
-    → (r : QuickEnd) (old new : Option (List ℕ)) (faults faults' : ℕ) → WasRead files image before between first
-    → MatchResult first (λ text. WasRead files board between after second) (λ e. after ≡ between) → RanBoard what first second r old new faults faults' → r.end ≡ Refused (refusals.ReadFault operand)
-    → Rose before.faults after.faults
-board_failed files before between after what image board (Err e) second operand r old new faults faults' one two ran is =
-    subst (λ (c : Counts). Rose before.faults c.faults) (sym two) (one.failed.rose (ap Err (read_fault operand 1 e (ran_ends _ r old new faults faults' _ ran is))))
-board_failed files before between after what image board (Ok text) (Ok more) operand r old new faults faults' one two ran is =
-    absurd (subst IsOfTexts is (board_ends what text more r old new faults faults' ran))
-board_failed files before between after what image board (Ok text) (Err e) operand r old new faults faults' one two ran is =
-    rose_since before.faults between.faults after.faults one.failed.later (two.failed.rose (ap Err (read_fault operand 2 e (ran_ends _ r old new faults faults' _ ran is))))
+text_usage : (what : TextCommand) (reading : Reading) (r : QuickEnd) (old new : Option (List ℕ)) (faults faults' : ℕ) → RanText what reading r old new faults faults' → r.end ≢ Refused refusals.Usage
+text_usage what (Ok text) r old new faults faults' ran is = subst IsOfTexts (ran_ends _ r old new faults faults' _ ran is) (text_ends what text)
+text_usage what (Err e) r old new faults faults' ran is = no_usage 1 e (unloaded_refused (unread 1 e) r old new faults faults' _ ran is)
+
+-- where two texts are refused, it is a fault of a text
+abbrev TextsRefused : Result (List ℕ × Setup) LoadError → Type 0
+TextsRefused (Err (loads.Refused refusal)) = IsOfTexts (Refused refusal)
+TextsRefused result = Unit {0}
+
+beside_refused : (image : List ℕ) (setup : Result Setup BoardFault) → TextsRefused (or_refused (beside image setup))
+beside_refused image (Ok setup) = tt
+beside_refused image (Err fault) = tt
+
+with_refused : (text : List ℕ) (fault : Option HexFault) (board : List ℕ) → TextsRefused (or_refused (with_board (judged_image text fault) board))
+with_refused text None board = beside_refused _ (board_of board)
+with_refused text (Some fault) board = tt
+
+texts_refused : (image board : List ℕ) → TextsRefused (or_refused (judged image board))
+texts_refused image board = with_refused image (fault_in image) board
+
+-- no file was there for an operand
+pub both_missed : (files : Option (List ℕ → Option (List ℕ))) (before after : Counts) (image board : List ℕ) (first second : Reading) (operand : ℕ) → ReadsBoth files before after image board first second
+    → both_of first second ≡ Err (loads.Refused (refusals.NoFile operand)) → Rose before.misses after.misses
+both_missed files before after image board (Err e) second operand reads is =
+    subst (λ (c : Counts). Rose before.misses c.misses) (sym reads.read_second) (reads.read_first.missed.rose (ap Err (no_file operand 1 e (err_is _ _ is))))
+both_missed files before after image board (Ok text) (Ok more) operand reads is = absurd (subst TextsRefused is (texts_refused text more))
+both_missed files before after image board (Ok text) (Err e) operand reads is =
+    rose_since before.misses reads.between.misses after.misses reads.read_first.missed.later (reads.read_second.missed.rose (ap Err (no_file operand 2 e (err_is _ _ is))))
+
+-- a read of an operand failed
+pub both_failed : (files : Option (List ℕ → Option (List ℕ))) (before after : Counts) (image board : List ℕ) (first second : Reading) (operand : ℕ) → ReadsBoth files before after image board first second
+    → both_of first second ≡ Err (loads.Refused (refusals.ReadFault operand)) → Rose before.faults after.faults
+both_failed files before after image board (Err e) second operand reads is =
+    subst (λ (c : Counts). Rose before.faults c.faults) (sym reads.read_second) (reads.read_first.failed.rose (ap Err (read_fault operand 1 e (err_is _ _ is))))
+both_failed files before after image board (Ok text) (Ok more) operand reads is = absurd (subst TextsRefused is (texts_refused text more))
+both_failed files before after image board (Ok text) (Err e) operand reads is =
+    rose_since before.faults reads.between.faults after.faults reads.read_first.failed.later (reads.read_second.failed.rose (ap Err (read_fault operand 2 e (err_is _ _ is))))
+
+pub both_usage : (first second : Reading) → both_of first second ≢ Err (loads.Refused refusals.Usage)
+both_usage (Err e) second is = no_usage 1 e (err_is _ _ is)
+both_usage (Ok text) (Ok more) is = subst TextsRefused is (texts_refused text more)
+both_usage (Ok text) (Err e) is = no_usage 2 e (err_is _ _ is)
 
 -- no file was there, so the count of misses rose
 pub reports_missed : (files : Option (List ℕ → Option (List ℕ))) (before after : Counts) (form : Option Asked) (r : QuickEnd) (old new : Option (List ℕ)) (faults faults' : ℕ)
     → Reports files before after form r old new faults faults' → (operand : ℕ) → r.end ≡ Refused (refusals.NoFile operand) → Rose before.misses after.misses
 reports_missed files before after None r old new faults faults' it operand is = cc (ran_ends _ r old new faults faults' _ it.ran is)
+reports_missed files before after (Some (Run image board)) r old new faults faults' it operand is = absurd it
 reports_missed files before after (Some Help) r old new faults faults' it operand is = cc (ran_ends _ r old new faults faults' _ it.ran is)
-reports_missed files before after (Some (Gen number)) r old new faults faults' it operand is = absurd (subst IsOfTexts is (sim_ends _ _ r old new faults faults' it.ran))
+reports_missed files before after (Some (Gen number)) r old new faults faults' it operand is = absurd (sim_unrefused _ _ r old new faults faults' _ it.ran is)
 reports_missed files before after (Some (OnText what name)) r old new faults faults' it operand is =
-    it.read.missed.rose (text_missed operand what it.reading (ran_ends _ r old new faults faults' _ it.ran is))
+    it.read.missed.rose (text_missed operand what it.reading r old new faults faults' it.ran is)
 reports_missed files before after (Some (OnBoard what image board)) r old new faults faults' it operand is =
-    board_missed files before it.between after what image board it.first it.second operand r old new faults faults' it.read_first it.read_second it.ran is
+    both_missed files before after image board it.first it.second operand it.reads (board_refused what _ r old new faults faults' _ it.ran is)
 
 -- a read failed, so the count of faults rose
 pub reports_failed : (files : Option (List ℕ → Option (List ℕ))) (before after : Counts) (form : Option Asked) (r : QuickEnd) (old new : Option (List ℕ)) (faults faults' : ℕ)
     → Reports files before after form r old new faults faults' → (operand : ℕ) → r.end ≡ Refused (refusals.ReadFault operand) → Rose before.faults after.faults
 reports_failed files before after None r old new faults faults' it operand is = cc (ran_ends _ r old new faults faults' _ it.ran is)
+reports_failed files before after (Some (Run image board)) r old new faults faults' it operand is = absurd it
 reports_failed files before after (Some Help) r old new faults faults' it operand is = cc (ran_ends _ r old new faults faults' _ it.ran is)
-reports_failed files before after (Some (Gen number)) r old new faults faults' it operand is = absurd (subst IsOfTexts is (sim_ends _ _ r old new faults faults' it.ran))
+reports_failed files before after (Some (Gen number)) r old new faults faults' it operand is = absurd (sim_unrefused _ _ r old new faults faults' _ it.ran is)
 reports_failed files before after (Some (OnText what name)) r old new faults faults' it operand is =
-    it.read.failed.rose (text_failed operand what it.reading (ran_ends _ r old new faults faults' _ it.ran is))
+    it.read.failed.rose (text_failed operand what it.reading r old new faults faults' it.ran is)
 reports_failed files before after (Some (OnBoard what image board)) r old new faults faults' it operand is =
-    board_failed files before it.between after what image board it.first it.second operand r old new faults faults' it.read_first it.read_second it.ran is
-
-no_usage_unread : (of : ℕ) (e : ReadError) → (unread of e).end ≢ Refused refusals.Usage
-no_usage_unread of errors.NoFile is = cc
-no_usage_unread of errors.ReadFault is = cc
-no_usage_unread of errors.TooLong is = cc
-no_usage_unread of errors.NoMemory is = cc
-
-no_usage_text : (what : TextCommand) (reading : Reading) → (on_reading what reading).end ≢ Refused refusals.Usage
-no_usage_text what (Ok text) is = subst IsOfTexts is (text_ends what text)
-no_usage_text what (Err e) is = no_usage_unread 1 e is
-
-no_usage_board : (what : BoardCommand) (first second : Reading) (r : QuickEnd) (old new : Option (List ℕ)) (faults faults' : ℕ) → RanBoard what first second r old new faults faults' → r.end ≢ Refused refusals.Usage
-no_usage_board what (Err e) second r old new faults faults' ran is = no_usage_unread 1 e (ran_ends _ r old new faults faults' _ ran is)
-no_usage_board what (Ok image) (Err e) r old new faults faults' ran is = no_usage_unread 2 e (ran_ends _ r old new faults faults' _ ran is)
-no_usage_board what (Ok image) (Ok board) r old new faults faults' ran is = subst IsOfTexts is (board_ends what image board r old new faults faults' ran)
+    both_failed files before after image board it.first it.second operand it.reads (board_refused what _ r old new faults faults' _ it.ran is)
 
 -- words that are refused are no written form
 pub reports_usage : (files : Option (List ℕ → Option (List ℕ))) (before after : Counts) (form : Option Asked) (r : QuickEnd) (old new : Option (List ℕ)) (faults faults' : ℕ)
     → Reports files before after form r old new faults faults' → r.end ≡ Refused refusals.Usage → form ≡ None
 reports_usage files before after None r old new faults faults' it is = refl
+reports_usage files before after (Some (Run image board)) r old new faults faults' it is = absurd it
 reports_usage files before after (Some Help) r old new faults faults' it is = cc (ran_ends _ r old new faults faults' _ it.ran is)
-reports_usage files before after (Some (Gen number)) r old new faults faults' it is = absurd (subst IsOfTexts is (sim_ends _ _ r old new faults faults' it.ran))
-reports_usage files before after (Some (OnText what name)) r old new faults faults' it is =
-    absurd (no_usage_text what it.reading (ran_ends _ r old new faults faults' _ it.ran is))
+reports_usage files before after (Some (Gen number)) r old new faults faults' it is = absurd (sim_unrefused _ _ r old new faults faults' _ it.ran is)
+reports_usage files before after (Some (OnText what name)) r old new faults faults' it is = absurd (text_usage what it.reading r old new faults faults' it.ran is)
 reports_usage files before after (Some (OnBoard what image board)) r old new faults faults' it is =
-    absurd (no_usage_board what it.first it.second r old new faults faults' it.ran is)
+    absurd (both_usage it.first it.second (board_refused what _ r old new faults faults' _ it.ran is))
 
 -- what follows of what a command leaves
 pub record Follows (form : Option Asked) (r : QuickEnd) (faults faults' : ℕ) : Type 0 where
@@ -244,7 +271,7 @@ shows_plain o WriteFault past old new plain it = tt
 shows_plain o NoMemory past old new plain it = tt
 shows_plain o end past old new plain it = subst IsPlain (sym it.0) plain
 
-no_script : (P : ScriptLinks → Type 0) (script : Option ScriptLinks) → script ≡ None → IfSome script P
+pub no_script : (P : ScriptLinks → Type 0) (script : Option ScriptLinks) → script ≡ None → IfSome script P
 no_script P None is = tt
 no_script P (Some links) is = cc
 
@@ -294,20 +321,16 @@ both_follows boards.Trace one two image setup r old new faults faults' ran =
     keeps_follows _ setup r faults faults' refl (no_poll _ image setup _ r.end _ _ old new ran.firmware ran.shows) ran.keeps
 both_follows boards.Check one two image setup r old new faults faults' ran = ran_follows _ _ r old new faults faults' tt ran
 
-judged_follows : (what : BoardCommand) (one two : List ℕ) (judged : Result (List ℕ × Setup) Refusal) (r : QuickEnd) (old new : Option (List ℕ)) (faults faults' : ℕ) → RanJudged what judged r old new faults faults'
-    → Follows (Some (OnBoard what one two)) r faults faults'
-judged_follows what one two (Ok both) r old new faults faults' ran = both_follows what one two both.0 both.1 r old new faults faults' ran
-judged_follows what one two (Err refusal) r old new faults faults' ran = ran_follows _ _ r old new faults faults' tt ran
+-- what follows where the operands were not loaded
+pub unloaded_follows : (form : Option Asked) (error : LoadError) (r : QuickEnd) (old new : Option (List ℕ)) (faults faults' : ℕ) → RanUnloaded error r old new faults faults' → Follows form r faults faults'
+unloaded_follows form (loads.Refused refusal) r old new faults faults' ran = ran_follows form (refused refusal) r old new faults faults' tt ran
+unloaded_follows form loads.NoMemory r old new faults faults' it =
+    ran_follows form (at_rest NoMemory []) r old new faults faults' tt (rw (it.unwritten, it.still) (none_ran (at_rest NoMemory []) r old faults it.end it.past it.script))
 
-unread_plain : (operand : ℕ) (e : ReadError) → IsPlain (unread operand e).end
-unread_plain operand errors.NoFile = tt
-unread_plain operand e = tt
-
-board_follows : (what : BoardCommand) (one two : List ℕ) (first second : Reading) (r : QuickEnd) (old new : Option (List ℕ)) (faults faults' : ℕ) → RanBoard what first second r old new faults faults'
-    → Follows (Some (OnBoard what one two)) r faults faults'
-board_follows what one two (Err e) second r old new faults faults' ran = ran_follows _ _ r old new faults faults' (unread_plain 1 e) ran
-board_follows what one two (Ok image) (Err e) r old new faults faults' ran = ran_follows _ _ r old new faults faults' (unread_plain 2 e) ran
-board_follows what one two (Ok image) (Ok board) r old new faults faults' ran = judged_follows what one two (judged image board) r old new faults faults' ran
+board_follows : (what : BoardCommand) (one two : List ℕ) (loaded : Result (List ℕ × Setup) LoadError) (r : QuickEnd) (old new : Option (List ℕ)) (faults faults' : ℕ)
+    → RanBoard what loaded r old new faults faults' → Follows (Some (OnBoard what one two)) r faults faults'
+board_follows what one two (Ok both) r old new faults faults' ran = both_follows what one two both.0 both.1 r old new faults faults' ran
+board_follows what one two (Err error) r old new faults faults' ran = unloaded_follows _ error r old new faults faults' ran
 
 script_plain : (end : ScriptStop) → IsPlain (end_of end)
 script_plain stops.Done = tt
@@ -321,16 +344,20 @@ listed_plain : (text : List ℕ) (fault : Option HexFault) → IsPlain (listed_o
 listed_plain text None = tt
 listed_plain text (Some fault) = tt
 
-reading_plain : (what : TextCommand) (reading : Reading) → IsPlain (on_reading what reading).end
-reading_plain what (Err e) = unread_plain 1 e
-reading_plain texts.Bus (Ok text) = script_plain (shown_script text).end
-reading_plain texts.Judge (Ok text) = judge_plain (shown_trace text).end
-reading_plain texts.List (Ok text) = listed_plain text (fault_in text)
+outcome_plain : (what : TextCommand) (text : List ℕ) → IsPlain (text_outcome what text).end
+outcome_plain texts.Bus text = script_plain (shown_script text).end
+outcome_plain texts.Judge text = judge_plain (shown_trace text).end
+outcome_plain texts.List text = listed_plain text (fault_in text)
+
+text_follows : (form : Option Asked) (what : TextCommand) (reading : Reading) (r : QuickEnd) (old new : Option (List ℕ)) (faults faults' : ℕ) → RanText what reading r old new faults faults' → Follows form r faults faults'
+text_follows form what (Ok text) r old new faults faults' ran = ran_follows form _ r old new faults faults' (outcome_plain what text) ran
+text_follows form what (Err e) r old new faults faults' ran = unloaded_follows form (unread 1 e) r old new faults faults' ran
 
 pub reports_follows : (files : Option (List ℕ → Option (List ℕ))) (before after : Counts) (form : Option Asked) (r : QuickEnd) (old new : Option (List ℕ)) (faults faults' : ℕ)
     → Reports files before after form r old new faults faults' → Follows form r faults faults'
 reports_follows files before after None r old new faults faults' it = ran_follows _ _ r old new faults faults' tt it.ran
 reports_follows files before after (Some Help) r old new faults faults' it = ran_follows _ _ r old new faults faults' tt it.ran
 reports_follows files before after (Some (Gen number)) r old new faults faults' it = sim_follows _ _ _ r old new faults faults' refl it.ran
-reports_follows files before after (Some (OnText what name)) r old new faults faults' it = ran_follows _ _ r old new faults faults' (reading_plain what it.reading) it.ran
-reports_follows files before after (Some (OnBoard what image board)) r old new faults faults' it = board_follows what image board it.first it.second r old new faults faults' it.ran
+reports_follows files before after (Some (Run image board)) r old new faults faults' it = absurd it
+reports_follows files before after (Some (OnText what name)) r old new faults faults' it = text_follows _ what it.reading r old new faults faults' it.ran
+reports_follows files before after (Some (OnBoard what image board)) r old new faults faults' it = board_follows what image board _ r old new faults faults' it.ran

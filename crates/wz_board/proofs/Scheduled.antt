@@ -32,7 +32,7 @@ sim_shown runs.WriteFault image setup r old new is it = it
 sim_shown runs.NoMemory image setup r old new is it = it
 sim_shown e image setup r old new is it = whole_run (outcome image setup) (sim_text setup (outcome image setup)) e r old new is it
 
-failed_run : (e : RunEnd) → end_of_run e ≡ WriteFault → e ≡ runs.WriteFault
+pub failed_run : (e : RunEnd) → end_of_run e ≡ WriteFault → e ≡ runs.WriteFault
 failed_run runs.WriteFault is = refl
 failed_run e is = cc
 
@@ -83,7 +83,8 @@ run_end cut o text WriteFault past script old new it = (runs.WriteFault, refl)
 run_end cut o text NoMemory past script old new it = (runs.NoMemory, refl)
 run_end cut o text end past script old new it = (o.end, it.end_is)
 
-polled : (e : RunEnd) → PollFault ≡ end_of_run e → e ≡ runs.PollFault
+-- an end of this name
+pub polled : (e : RunEnd) → PollFault ≡ end_of_run e → e ≡ runs.PollFault
 polled runs.PollFault is = refl
 polled e is = cc
 

@@ -1,5 +1,5 @@
 -- The end of a script and of a judged trace as a command's, and the line of a refusal, also behind their text.
-use Rattle.std.proofs.Common.{arith, append-nil, ◌≡◌, ℕ, List, [], ◌++◌, Option, None, Some, Result, Ok, Err, refl, sym, ap, ◌∙◌, subst}
+use Rattle.std.proofs.Common.{arith, append-nil, ◌≡◌, ℕ, List, [], ◌++◌, Option, None, Some, refl, sym, ap, ◌∙◌, subst}
 use Rattle.chip_sheet.specs.Past.{Past}
 use Rattle.chip_sheet.specs.Legal.{Legal}
 use Rattle.wz_base.specs.Outside.{RisesOnly}
@@ -21,7 +21,7 @@ use Rattle.wz_board.specs.Ends.{fault_text}
 use Rattle.wz_board.specs.declared.end.QuickEnd.{QuickEnd}
 use Rattle.wz_board.specs.declared.words.BoardCommand.{BoardCommand}
 use Rattle.wz_board.specs.declared.words.BoardCommand.TheVariants as boards
-use Rattle.wz_board.specs.Outcome.{Outcome, end_of, end_of_judge, judge_run, last_line, refused, script_run, line_of, text_fault, with_last_line, AddsLine, IsCut, IsWhole, Ran, RanJudged, Shows}
+use Rattle.wz_board.specs.Outcome.{Outcome, end_of, end_of_judge, judge_run, last_line, refused, script_run, line_of, text_fault, with_last_line, AddsLine, IsCut, IsWhole, Ran, RanBoth, Shows}
 use Rattle.wz_board.proofs.Causes.{rises_as}
 use Rattle.wz_board.proofs.Scheduled.{firmware_ends, keeps_none}
 
@@ -120,17 +120,16 @@ none_ran o r old faults is past script = record {
   causes = record { later = omega arith; rose = λ e. cc (sym is ∙ e); still = λ no. refl };
 }
 
-pub none_ran_board : (what : BoardCommand) (judged : Result (List ℕ × Setup) Refusal) (r : QuickEnd) (old : Option (List ℕ)) (faults : ℕ) → r.end ≡ NoMemory → r.history.past ≡ [] → r.script ≡ None
-    → RanJudged what judged r old old faults faults
-none_ran_board boards.Sim (Ok both) r old faults is past script = record {
+pub none_ran_both : (what : BoardCommand) (image : List ℕ) (setup : Setup) (r : QuickEnd) (old : Option (List ℕ)) (faults : ℕ) → r.end ≡ NoMemory → r.history.past ≡ [] → r.script ≡ None
+    → RanBoth what image setup r old old faults faults
+none_ran_both boards.Sim image setup r old faults is past script = record {
   shows = rw is (none_front _ old);
-  keeps = keeps_none both.1 r faults is past script;
-  firmware = firmware_ends both.0 both.1;
+  keeps = keeps_none setup r faults is past script;
+  firmware = firmware_ends image setup;
 }
-none_ran_board boards.Trace (Ok both) r old faults is past script = record {
+none_ran_both boards.Trace image setup r old faults is past script = record {
   shows = rw is (none_front _ old);
-  keeps = keeps_none both.1 r faults is past script;
-  firmware = firmware_ends both.0 both.1;
+  keeps = keeps_none setup r faults is past script;
+  firmware = firmware_ends image setup;
 }
-none_ran_board boards.Check (Ok both) r old faults is past script = none_ran _ r old faults is past script
-none_ran_board what (Err refusal) r old faults is past script = none_ran _ r old faults is past script
+none_ran_both boards.Check image setup r old faults is past script = none_ran _ r old faults is past script

@@ -1,12 +1,10 @@
 -- What a command comes to.
-use Rattle.std.specs.Prelude.{◌≡◌, ℕ, Bool, true, false, List, [], ◌++◌, Option, None, Some, Result, Ok, Err, MatchResult}
+use Rattle.std.specs.Prelude.{◌≡◌, ℕ, Bool, true, false, List, [], ◌++◌, Option, None, Some, Result, Ok, Err}
 use Rattle.chip_sheet.specs.Past.{Past, GoesOn}
 use Rattle.chip_sheet.specs.Legal.{Legal}
 use Rattle.chip_sheet.specs.Streams.{Starts}
 use Rattle.wz_base.specs.Outside.{RisesOnly}
 use Rattle.wz_base.specs.Whole.{Appends, AppendsFront}
-use Rattle.wz_base.specs.declared.reading.ReadError.{ReadError}
-use Rattle.wz_base.specs.declared.reading.ReadError.TheVariants as errors
 use Rattle.wz_board.specs.declared.end.Refusal.{Refusal}
 use Rattle.wz_board.specs.declared.end.Refusal.TheVariants as refusals
 use Rattle.wz_board.specs.declared.end.EndKind.{EndKind}
@@ -18,10 +16,13 @@ use Rattle.wz_board.specs.declared.words.BoardCommand.{BoardCommand}
 use Rattle.wz_board.specs.declared.words.BoardCommand.TheVariants as boards
 use Rattle.wz_board.specs.Ends.{fault_text}
 use Rattle.board_list.specs.Listing.{listing}
-use Rattle.wz_board.specs.Checked.{check_text, judged, judged_image}
+use Rattle.wz_board.specs.Checked.{check_text, judged_image}
 use Rattle.wz_board.specs.Reads.{Counts, Reading, WasRead}
+use Rattle.wz_board.specs.Loads.{both_of, unread, ReadsBoth}
+use Rattle.wz_board.specs.declared.loading.LoadError.{LoadError}
+use Rattle.wz_board.specs.declared.loading.LoadError.TheVariants as loads
 use Rattle.wz_board.specs.Runs.{RanGen, RanSim, RanTrace}
-use Rattle.wz_board.specs.Words.{Asked, OnText, OnBoard, Gen, Help, forms}
+use Rattle.wz_board.specs.Words.{Asked, Run, OnText, OnBoard, Gen, Help, asks_live, forms}
 use Rattle.ihex.specs.Text.{fault_in}
 use Rattle.board_file.specs.Boards.{Setup}
 use Rattle.board_gen.specs.declared.fault.ScriptFault.{ScriptFault}
@@ -113,18 +114,6 @@ text_outcome texts.Bus text = script_outcome text
 text_outcome texts.Judge text = judge_outcome text
 text_outcome texts.List text = listed_outcome (judged_image text (fault_in text))
 
--- A command whose operand of this number was not read.
-abbrev pub unread : ℕ → ReadError → Outcome
-unread operand errors.NoFile = refused (refusals.NoFile operand)
-unread operand errors.ReadFault = refused (refusals.ReadFault operand)
-unread operand errors.TooLong = refused (refusals.TooLong operand)
-unread operand errors.NoMemory = at_rest NoMemory []
-
--- What a command on one file comes to, by what was read of it.
-abbrev pub on_reading : TextCommand → Reading → Outcome
-on_reading what (Ok text) = text_outcome what text
-on_reading what (Err e) = unread 1 e
-
 -- The history and the text are prefixes of what they should be.
 abbrev pub IsCut : Outcome → Past → Option (List ℕ) → Option (List ℕ) → Type 0
 IsCut o past old new = GoesOn past o.past × AppendsFront old o.text new
@@ -172,34 +161,43 @@ RanBoth boards.Sim image setup r old new before after = RanSim image setup r old
 RanBoth boards.Trace image setup r old new before after = RanTrace image setup r old new before after
 RanBoth boards.Check image setup r old new before after = Ran (at_rest Done (check_text image setup)) r old new before after
 
--- What it leaves, by the judgement of both texts.
-abbrev pub RanJudged : BoardCommand → Result (List ℕ × Setup) Refusal → QuickEnd → Option (List ℕ) → Option (List ℕ) → ℕ → ℕ → Type 0
-RanJudged what (Ok both) r old new before after = RanBoth what both.0 both.1 r old new before after
-RanJudged what (Err refusal) r old new before after = Ran (refused refusal) r old new before after
+-- Memory ran out before anything happened.
+pub record RanNothing (r : QuickEnd) (old new : Option (List ℕ)) (before after : ℕ) : Type 0 where
+  pub end : r.end ≡ NoMemory
+  pub past : r.history.past ≡ []
+  pub script : r.script ≡ None
+  pub unwritten : new ≡ old
+  pub still : after ≡ before
 
--- What it leaves, by what was read of both.
-abbrev pub RanBoard : BoardCommand → Reading → Reading → QuickEnd → Option (List ℕ) → Option (List ℕ) → ℕ → ℕ → Type 0
-RanBoard what (Ok image) (Ok board) r old new before after = RanJudged what (judged image board) r old new before after
-RanBoard what (Ok image) (Err e) r old new before after = Ran (unread 2 e) r old new before after
-RanBoard what (Err e) second r old new before after = Ran (unread 1 e) r old new before after
+-- What a command leaves whose operands were not loaded.
+abbrev pub RanUnloaded : LoadError → QuickEnd → Option (List ℕ) → Option (List ℕ) → ℕ → ℕ → Type 0
+RanUnloaded (loads.Refused refusal) r old new before after = Ran (refused refusal) r old new before after
+RanUnloaded loads.NoMemory r old new before after = RanNothing r old new before after
 
--- A command on one file, over files whose counts were these before and after: the outcome of what was read of it.
+-- What a command on one file leaves, by what was read of it.
+abbrev pub RanText : TextCommand → Reading → QuickEnd → Option (List ℕ) → Option (List ℕ) → ℕ → ℕ → Type 0
+RanText what (Ok text) r old new before after = Ran (text_outcome what text) r old new before after
+RanText what (Err e) r old new before after = RanUnloaded (unread 1 e) r old new before after
+
+-- What a command on an image and a board leaves, by what its operands come to.
+abbrev pub RanBoard : BoardCommand → Result (List ℕ × Setup) LoadError → QuickEnd → Option (List ℕ) → Option (List ℕ) → ℕ → ℕ → Type 0
+RanBoard what (Ok both) r old new before after = RanBoth what both.0 both.1 r old new before after
+RanBoard what (Err error) r old new before after = RanUnloaded error r old new before after
+
+-- A command on one file, over files whose counts were these before and after: what was read of it, and what it left.
 pub record ReportsText (files : Option (List ℕ → Option (List ℕ))) (before after : Counts) (what : TextCommand) (name : List ℕ)
     (r : QuickEnd) (old new : Option (List ℕ)) (faults faults_now : ℕ) : Type 0 where
   pub reading : Reading
   pub read : WasRead files name before after reading
-  pub ran : Ran (on_reading what reading) r old new faults faults_now
+  pub ran : RanText what reading r old new faults faults_now
 
--- A command on an image and a board: what was read of both, and what it left. The board is read once the image was read, and else nothing
--- more was asked of the files.
+-- A command on an image and a board: what was read of both, and what it left.
 pub record ReportsBoard (files : Option (List ℕ → Option (List ℕ))) (before after : Counts) (what : BoardCommand) (image board : List ℕ)
     (r : QuickEnd) (old new : Option (List ℕ)) (faults faults_now : ℕ) : Type 0 where
   pub first : Reading
-  pub between : Counts
   pub second : Reading
-  pub read_first : WasRead files image before between first
-  pub read_second : MatchResult first (λ text. WasRead files board between after second) (λ e. after ≡ between)
-  pub ran : RanBoard what first second r old new faults faults_now
+  pub reads : ReadsBoth files before after image board first second
+  pub ran : RanBoard what (both_of first second) r old new faults faults_now
 
 -- A command that reads no file.
 pub record ReportsAlone (before after : Counts) (o : Outcome) (r : QuickEnd) (old new : Option (List ℕ)) (faults faults_now : ℕ) : Type 0 where
@@ -211,12 +209,25 @@ pub record ReportsGen (before after : Counts) (number : ℕ) (r : QuickEnd) (old
   pub unread : after ≡ before
   pub ran : RanGen number r old new faults faults_now
 
--- What the words come to over these files and this sink. Where they are no written form, that is a refusal.
+-- What `quick` leaves of the words over these files and this sink. Where they are no written form, that is a refusal; of a live run it
+-- leaves nothing.
 abbrev pub Reports : Option (List ℕ → Option (List ℕ)) → Counts → Counts → Option Asked → QuickEnd → Option (List ℕ) → Option (List ℕ) → ℕ → ℕ → Type 0
 Reports files before after None r old new faults faults_now = ReportsAlone before after (refused refusals.Usage) r old new faults faults_now
+Reports files before after (Some (Run image board)) r old new faults faults_now = ⊥
 Reports files before after (Some Help) r old new faults faults_now = ReportsAlone before after (at_rest Done forms) r old new faults faults_now
 Reports files before after (Some (Gen number)) r old new faults faults_now = ReportsGen before after number r old new faults faults_now
 Reports files before after (Some (OnText what name)) r old new faults faults_now =
     ReportsText files before after what name r old new faults faults_now
 Reports files before after (Some (OnBoard what image board)) r old new faults faults_now =
     ReportsBoard files before after what image board r old new faults faults_now
+
+-- Nothing was asked of the files and the sink.
+pub record IsUntouched (before after : Counts) (old new : Option (List ℕ)) (faults faults_now : ℕ) : Type 0 where
+  pub unread : after ≡ before
+  pub unwritten : new ≡ old
+  pub still : faults_now ≡ faults
+
+-- What `quick` answers: nothing for a live run, and else what it leaves.
+abbrev pub ReportsQuick : Option (List ℕ → Option (List ℕ)) → Counts → Counts → Option Asked → Option QuickEnd → Option (List ℕ) → Option (List ℕ) → ℕ → ℕ → Type 0
+ReportsQuick files before after form None old new faults faults_now = (asks_live form ≡ true) × IsUntouched before after old new faults faults_now
+ReportsQuick files before after form (Some r) old new faults faults_now = Reports files before after form r old new faults faults_now

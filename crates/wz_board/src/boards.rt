@@ -1,17 +1,15 @@
-//! Commands on the text of a firmware image and that of a board.
-ghost use Rattle.std.specs.Prelude.{◌≡◌, ◌≤◌, length, string_bytes, IfOk};
-ghost use Rattle.board_file.specs.Boards.{board_of, IsWithinLimits};
-ghost use Rattle.wz_board.specs.declared.reading.TheConstants.{TEXT_LIMIT};
-ghost use Rattle.wz_board.specs.Checked.{beside, check_text, judged, programmed};
-ghost use Rattle.wz_board.specs.Outcome.{RanBoth, RanJudged};
+//! Commands on an image and a board but a live run.
+ghost use Rattle.std.specs.Prelude.{◌≡◌, string_bytes, IfOk};
+ghost use Rattle.board_file.specs.Boards.{IsWithinLimits};
+ghost use Rattle.wz_board.specs.Checked.{check_text, programmed};
+ghost use Rattle.wz_board.specs.Outcome.{RanBoth};
 
-use crate::end::{EndKind, QuickEnd, Refusal};
-use crate::left::{nothing_ran, refuse};
+use crate::end::{EndKind, QuickEnd};
+use crate::left::nothing_ran;
 use crate::runs::{sim, trace};
 use crate::words::BoardCommand;
-use board_file::{Board, BoardError, board};
+use board_file::Board;
 use flash::Image;
-use ihex::{HexError, load};
 use std::alloc::{AllocError, Global};
 use wz_base::{Sink, WriteError, write_all};
 
@@ -47,7 +45,7 @@ fn check<K: Sink>(alloc: Global, image: &Image, board: &Board, out: &mut K) -> Q
 }
 
 /// Does what is asked of an image and a board.
-fn with_both<K: Sink>(
+pub fn on_board<K: Sink>(
     alloc: Global,
     what: BoardCommand,
     image: Image,
@@ -61,40 +59,5 @@ fn with_both<K: Sink>(
         BoardCommand::Sim => sim(alloc, image, board, out),
         BoardCommand::Trace => trace(alloc, image, board, out),
         BoardCommand::Check => check(alloc, &image, &board, out),
-    }
-}
-
-/// Judges the text of a board, and does what is asked of an image and the board.
-fn with_image<K: Sink>(
-    alloc: Global,
-    what: BoardCommand,
-    image: Image,
-    text: &[u8],
-    out: &mut K,
-) -> QuickEnd
-    ensures { RanJudged what (beside image (board_of text.now)) result (K.written out.old) (K.written out.new) (K.faults out.old) (K.faults out.new) }
-{
-    match board(alloc, text) {
-        Ok(board) => with_both(alloc, what, image, board, out),
-        Err(BoardError::Fault(fault)) => refuse(alloc, Refusal::Board(fault), out),
-        Err(BoardError::NoMemory) => nothing_ran(alloc, EndKind::NoMemory),
-    }
-}
-
-/// Judges the text of an image, then that of a board, and does what is asked of them.
-pub fn on_board<K: Sink>(
-    alloc: Global,
-    what: BoardCommand,
-    image: &[u8],
-    board: &[u8],
-    out: &mut K,
-) -> QuickEnd
-    requires { length image.now ≤ TEXT_LIMIT }
-    ensures { RanJudged what (judged image.now board.now) result (K.written out.old) (K.written out.new) (K.faults out.old) (K.faults out.new) }
-{
-    match load(alloc, image) {
-        Ok(image) => with_image(alloc, what, image, board, out),
-        Err(HexError::Fault(fault)) => refuse(alloc, Refusal::Hex(fault), out),
-        Err(HexError::NoMemory) => nothing_ran(alloc, EndKind::NoMemory),
     }
 }

@@ -3,13 +3,14 @@ ghost use Rattle.std.specs.Prelude.{◌≡◌, ◌⊎◌, ℕ, List, [], Option}
 ghost use Rattle.wz_base.specs.Outside.{RisesOnly};
 ghost use Rattle.board_gen.specs.Script.{no_starts};
 ghost use Rattle.chip_sheet.specs.Legal.{Legal};
-ghost use Rattle.wz_board.specs.Outcome.{refused, text_fault, unread, with_last_line, AddsLine, Outcome, Ran, Shows};
+ghost use Rattle.wz_board.specs.Outcome.{refused, text_fault, with_last_line, AddsLine, Outcome, Ran, RanUnloaded, Shows};
 
 use crate::end::{EndKind, QuickEnd, Refusal, USAGE, fault_text, status_of};
+use crate::loading::LoadError;
 use board_gen::ScriptFault;
 use chip_hist::history::History;
 use std::alloc::{AllocError, Global};
-use wz_base::{ReadError, Sink, WriteError, write_all};
+use wz_base::{Sink, WriteError, write_all};
 
 /// How much a history is meant to hold, in units of weight. A script of permitted length never has more.
 const WEIGHT_LIMIT: u64 = 33_554_432;
@@ -100,14 +101,12 @@ pub fn refuse_words<K: Sink>(alloc: Global, out: &mut K) -> QuickEnd
     }
 }
 
-/// Ends a command whose operand of this number was not read.
-pub fn unread<K: Sink>(alloc: Global, operand: u8, error: ReadError, out: &mut K) -> QuickEnd
-    ensures { Ran (unread operand error) result (K.written out.old) (K.written out.new) (K.faults out.old) (K.faults out.new) }
+/// Ends a command whose operands were not loaded.
+pub fn not_loaded<K: Sink>(alloc: Global, error: LoadError, out: &mut K) -> QuickEnd
+    ensures { RanUnloaded error result (K.written out.old) (K.written out.new) (K.faults out.old) (K.faults out.new) }
 {
     match error {
-        ReadError::NoFile => refuse(alloc, Refusal::NoFile { operand }, out),
-        ReadError::ReadFault => refuse(alloc, Refusal::ReadFault { operand }, out),
-        ReadError::TooLong => refuse(alloc, Refusal::TooLong { operand }, out),
-        ReadError::NoMemory => nothing_ran(alloc, EndKind::NoMemory),
+        LoadError::Refused(refusal) => refuse(alloc, refusal, out),
+        LoadError::NoMemory => nothing_ran(alloc, EndKind::NoMemory),
     }
 }

@@ -1,15 +1,16 @@
-//! The top call: every command but a live run.
-ghost use Rattle.std.specs.Prelude.{◌≡◌, ℕ, ◌⊎◌, Some, None, map, string_bytes, true, IsSome, IfSome};
+//! Every command but a live run.
+ghost use Rattle.std.specs.Prelude.{◌≡◌, ◌↔◌, ℕ, ◌⊎◌, Some, None, map, string_bytes, true, IsSome, IfSome};
 ghost use Rattle.wz_base.specs.Outside.{Rose, RisesOnly};
 ghost use Rattle.wz_board.specs.Ends.{status_of};
 ghost use Rattle.wz_board.specs.Reads.{counts};
-ghost use Rattle.wz_board.specs.Words.{asked, command_of};
-ghost use Rattle.wz_board.specs.Outcome.{asks_run, IsLegal, Reports, ReportsBoard, ReportsText};
+ghost use Rattle.wz_board.specs.Words.{asked, asks_live, command_of};
+ghost use Rattle.wz_board.specs.Outcome.{asks_run, IsLegal, IsUntouched, Reports, ReportsBoard, ReportsQuick, ReportsText};
 ghost use Rattle.wz_board.specs.Runs.{IsOfRun, IsTied};
 
 use crate::boards::on_board;
 use crate::end::{EndKind, QuickEnd, Refusal};
-use crate::left::{refuse_words, unread};
+use crate::left::{not_loaded, refuse_words};
+use crate::loading::{load_both, unread};
 use crate::reading::read_operand;
 use crate::runs::run_echo;
 use crate::texts::{help, on_text};
@@ -29,7 +30,7 @@ fn run_text<F: Files, K: Sink>(
 {
     match read_operand(alloc, files, name) {
         Ok(text) => on_text(alloc, what, &text, out),
-        Err(error) => unread(alloc, 1, error, out),
+        Err(error) => not_loaded(alloc, unread(1, error), out),
     }
 }
 
@@ -44,50 +45,50 @@ fn run_board<F: Files, K: Sink>(
 ) -> QuickEnd
     ensures { ReportsBoard (F.held files.old) (counts (F.misses files.old) (F.faults files.old)) (counts (F.misses files.new) (F.faults files.new)) what image.now board.now result (K.written out.old) (K.written out.new) (K.faults out.old) (K.faults out.new) }
 {
-    match read_operand(alloc, files, image) {
-        Ok(image) => match read_operand(alloc, files, board) {
-            Ok(board) => on_board(alloc, what, &image, &board, out),
-            Err(error) => unread(alloc, 2, error, out),
-        },
-        Err(error) => unread(alloc, 1, error, out),
+    match load_both(alloc, files, image, board) {
+        Ok((image, board)) => on_board(alloc, what, image, board, out),
+        Err(error) => not_loaded(alloc, error, out),
     }
 }
 
-/// Does what a command asks.
+/// Does what a command asks that is no live run.
 fn run_command<F: Files, K: Sink>(
     alloc: Global,
     command: &Command<'_>,
     files: &mut F,
     out: &mut K,
-) -> QuickEnd
-    ensures { Reports (F.held files.old) (counts (F.misses files.old) (F.faults files.old)) (counts (F.misses files.new) (F.faults files.new)) (Some (asked command.now)) result (K.written out.old) (K.written out.new) (K.faults out.old) (K.faults out.new) }
+) -> Option<QuickEnd>
+    ensures { ReportsQuick (F.held files.old) (counts (F.misses files.old) (F.faults files.old)) (counts (F.misses files.new) (F.faults files.new)) (Some (asked command.now)) result (K.written out.old) (K.written out.new) (K.faults out.old) (K.faults out.new) }
 {
     match *command {
-        Command::OnText { what, name } => run_text(alloc, what, name, files, out),
-        Command::OnBoard { what, image, board } => run_board(alloc, what, image, board, files, out),
-        Command::Gen { number } => run_echo(alloc, number, out),
-        Command::Help => help(alloc, out),
+        Command::Run { .. } => None,
+        Command::OnText { what, name } => Some(run_text(alloc, what, name, files, out)),
+        Command::OnBoard { what, image, board } => {
+            Some(run_board(alloc, what, image, board, files, out))
+        }
+        Command::Gen { number } => Some(run_echo(alloc, number, out)),
+        Command::Help => Some(help(alloc, out)),
     }
 }
 
-/// Does what the words ask.
+/// Does what the words ask that are no live run.
 fn run_words<F: Files, K: Sink>(
     alloc: Global,
     words: &[String],
     files: &mut F,
     out: &mut K,
-) -> QuickEnd
-    ensures reports { Reports (F.held files.old) (counts (F.misses files.old) (F.faults files.old)) (counts (F.misses files.new) (F.faults files.new)) (command_of (map string_bytes words.now)) result (K.written out.old) (K.written out.new) (K.faults out.old) (K.faults out.new) }
-    ensures no_form { command_of (map string_bytes words.now) ≡ None → (result.end ≡ EndKind.Refused Refusal.Usage) ⊎ (result.end ≡ EndKind.WriteFault) }
+) -> Option<QuickEnd>
+    ensures reports { ReportsQuick (F.held files.old) (counts (F.misses files.old) (F.faults files.old)) (counts (F.misses files.new) (F.faults files.new)) (command_of (map string_bytes words.now)) result (K.written out.old) (K.written out.new) (K.faults out.old) (K.faults out.new) }
+    ensures no_form { IfSome result (λ r. command_of (map string_bytes words.now) ≡ None → (r.end ≡ EndKind.Refused Refusal.Usage) ⊎ (r.end ≡ EndKind.WriteFault)) }
 {
     match command_of(words) {
-        None => refuse_words(alloc, out),
+        None => Some(refuse_words(alloc, out)),
         Some(command) => run_command(alloc, &command, files, out),
     }
 }
 
-/// Does what the words ask, those after the program's name. It answers `Some` always: `None` is kept for the words of a live
-/// run, which may not return, and no command is one yet.
+/// Does what the words ask, those after the program's name, where they are no live run: it waits for nobody and returns. It answers `None`
+/// exactly where they are one, and then it has asked nothing of files and sink.
 ///
 /// # Ends
 ///
@@ -105,7 +106,8 @@ pub fn quick<F: Files, K: Sink>(
     files: &mut F,
     out: &mut K,
 ) -> Option<QuickEnd>
-    ensures answers { IsSome result }
+    ensures live { result ≡ None ↔ asks_live (command_of (map string_bytes words.now)) ≡ true }
+    ensures untouched { result ≡ None → IsUntouched (counts (F.misses files.old) (F.faults files.old)) (counts (F.misses files.new) (F.faults files.new)) (K.written out.old) (K.written out.new) (K.faults out.old) (K.faults out.new) }
     ensures reports { IfSome result (λ r. Reports (F.held files.old) (counts (F.misses files.old) (F.faults files.old)) (counts (F.misses files.new) (F.faults files.new)) (command_of (map string_bytes words.now)) r (K.written out.old) (K.written out.new) (K.faults out.old) (K.faults out.new)) }
     ensures legal { IfSome result (λ r. IsLegal r.history.past) }
     ensures status { IfSome result (λ r. r.status ≡ status_of r.end) }
@@ -124,5 +126,5 @@ pub fn quick<F: Files, K: Sink>(
     ensures read_faults { IfSome result (λ r. (operand : ℕ) → r.end ≡ EndKind.Refused (Refusal.ReadFault operand) → Rose (F.faults files.old) (F.faults files.new)) }
     ensures write_faults { IfSome result (λ r. RisesOnly (r.end ≡ EndKind.WriteFault) (K.faults out.old) (K.faults out.new)) }
 {
-    Some(run_words(alloc, words, files, out))
+    run_words(alloc, words, files, out)
 }

@@ -15,7 +15,7 @@ use std::alloc::{AllocError, Global};
 use wz_base::Sink;
 
 /// How a command ends whose run ended so: by the same name.
-fn end_of_run(end: RunEnd) -> EndKind
+pub fn end_of_run(end: RunEnd) -> EndKind
     ensures { result ≡ end_of_run end }
 {
     match end {

@@ -1,9 +1,16 @@
 //! Whole commands over files and a sink in memory, with ample memory.
-use crate::end::{EndKind, QuickEnd, Refusal};
+use crate::end::{EndKind, QuickEnd, Refusal, TopEnd};
 use crate::quick::quick;
 use crate::reading::TEXT_LIMIT;
+use crate::top::top;
+use link_script::ScriptLinks;
+use live_trait::{Gate, ListPoller, OpenGate, Point, Poller};
 use std::alloc::Global;
+use std::sync::Wait;
+use std::sync::atomic::Ordering::SeqCst;
+use std::sync::atomic::{AtomicBool, AtomicU64};
 use std::test::Fail;
+use std::thread::Threads;
 use wz_base::{MemFiles, MemSink};
 
 /// The words of a command line.
@@ -491,7 +498,7 @@ fn prints_the_written_forms(rt: HostRuntime) -> Result<(), Fail> {
         &mut out,
     )?;
     let forms =
-        "sim HEX BOARD\ntrace HEX BOARD\ncheck HEX BOARD\nbus SCRIPT\njudge TRACE\nlist HEX\ngen N\n--help\n";
+        "run HEX BOARD\nsim HEX BOARD\ntrace HEX BOARD\ncheck HEX BOARD\nbus SCRIPT\njudge TRACE\nlist HEX\ngen N\n--help\n";
     assert_eq!(rt; out.as_slice(), forms.as_bytes());
     assert_eq!(rt; ended.map(|e| (e.status, e.end)), Some((0, EndKind::Done)));
     Ok(())
@@ -684,5 +691,174 @@ fn lists_a_long_image_in_pieces(rt: HostRuntime) -> Result<(), Fail> {
     assert_eq!(rt; prefix.len(), 8145);
     assert!(rt; prefix.ends_with(b"021E: 0000 nop\n"));
     assert_eq!(rt; ended.map(|e| e.status), Some(6));
+    Ok(())
+}
+
+/// What words come to over links without peers; the waits and the writes of these numbers fail.
+fn run_top<R: Threads + Wait + Sync, G: Gate + Sync>(
+    rt: &R,
+    alloc: Global,
+    texts: &[&str],
+    files: &[(&str, &[u8])],
+    failing: (&[u64], &[u64]),
+    gate: &G,
+    out: &mut Vec<u8>,
+) -> Result<TopEnd<ScriptLinks, ListPoller>, Fail> {
+    let mut files = MemFiles::new(files_of(alloc, files)?, Vec::new(alloc));
+    let mut sink = MemSink::new(alloc, 65536, failing.1.to_vec(alloc)?)?;
+    let words = words(alloc, texts)?;
+    let links = ScriptLinks::new(alloc, Vec::new(alloc))?;
+    let poller = ListPoller::new(failing.0.to_vec(alloc)?);
+    let ended = top(
+        rt, alloc, &words, &mut files, &mut sink, links, poller, gate,
+    );
+    out.extend_from_slice(sink.bytes())?;
+    Ok(ended)
+}
+
+/// Pulls the select line low and lets it go, for ever.
+const TOGGLES: &str = ":0C00000004E005B904B92A982A9AFDCF43\n:00000001FF\n";
+
+#[test]
+fn runs_firmware_over_links(rt: HostRuntime) -> Result<(), Fail> {
+    for (hex, failing, start, end, status) in [
+        (
+            BREAK,
+            (0, 0),
+            "== end break\n== cycles 1\n== bus 0\n== link 0\n== faults 0\n",
+            "",
+            0,
+        ),
+        (
+            SELECTS,
+            (0, 0),
+            "A\n== end break\n",
+            "== bus 4\n== link 0\n== faults 0\n",
+            0,
+        ),
+        (
+            TOGGLES,
+            (1, 0),
+            "== end poll-fault\n== cycles ",
+            "== link 0\n== faults 0\n",
+            9,
+        ),
+        (SELECTS, (0, 1), "", "", 6),
+    ] {
+        let mut out = Vec::new(rt.alloc());
+        let ended = run_top(
+            &rt,
+            rt.alloc(),
+            &["run", "h", "b"],
+            &[("h", hex.as_bytes()), ("b", b"")],
+            (&[failing.0], &[failing.1]),
+            &OpenGate,
+            &mut out,
+        )?;
+        assert!(rt; out.starts_with(start.as_bytes()), "{hex}");
+        assert!(rt; out.ends_with(end.as_bytes()), "{hex}");
+        assert_eq!(rt;
+            (ended.status, ended.script.is_some()),
+            (status, false),
+            "{hex}"
+        );
+    }
+    Ok(())
+}
+
+#[test]
+fn hands_links_and_poller_back(rt: HostRuntime) -> Result<(), Fail> {
+    let files: [(&str, &[u8]); 3] = [("h", BREAK.as_bytes()), ("x", b"x"), ("b", b"cycles = 0")];
+    let rows: [(&[&str], &str, u8); 6] = [
+        (&["run", "h"], "fault usage\n", 2),
+        (&["run", "t", "t"], "fault nofile 1\n", 5),
+        (&["run", "x", "t"], "fault nofile 2\n", 5),
+        (&["run", "x", "b"], "fault hex BadStart 1\n", 3),
+        (&["run", "h", "b"], "fault board cycles 0 OutOfRange\n", 4),
+        (&["list", "h"], "0000: 9598 break\n", 0),
+    ];
+    for (words, shown, status) in rows {
+        let mut out = Vec::new(rt.alloc());
+        let mut ended = run_top(
+            &rt,
+            rt.alloc(),
+            words,
+            &files,
+            (&[1], &[]),
+            &OpenGate,
+            &mut out,
+        )?;
+        assert_eq!(rt; out.as_slice(), shown.as_bytes());
+        assert_eq!(rt; (ended.status, ended.history.len()), (status, 0), "{shown}");
+
+        // No wait was made, so the next one is the first, and fails.
+        assert!(rt; ended.poller.wait().is_err(), "{shown}");
+    }
+    Ok(())
+}
+
+#[test]
+fn leaves_live_runs_to_top(rt: HostRuntime) -> Result<(), Fail> {
+    let mut out = Vec::new(rt.alloc());
+    let ended = run_board(rt.alloc(), "run", (BREAK, ""), &[], &mut out)?;
+    assert!(rt; ended.is_none());
+    assert_eq!(rt; out.len(), 0);
+    Ok(())
+}
+
+/// How often the gate looks for a step of the links before it gives up.
+const TURNS: u32 = 300_000_000;
+
+/// A gate that holds the firmware at its first event until a step of the links comes.
+#[derive(Drop)]
+struct HoldGate {
+    /// Whether the firmware came to its first event.
+    held: AtomicBool,
+    /// How many steps the links made.
+    steps: AtomicU64,
+    /// Whether a step came while the firmware was held.
+    came: AtomicBool,
+}
+
+impl Gate for HoldGate {
+    fn at(&self, point: Point) {
+        match point {
+            Point::Link => {
+                self.steps.fetch_add(1, SeqCst);
+            }
+            Point::Firmware => {
+                if !self.held.swap(true, SeqCst) {
+                    let before = self.steps.load(SeqCst);
+                    for _ in 0..TURNS {
+                        if self.steps.load(SeqCst) != before {
+                            self.came.store(true, SeqCst);
+                            return;
+                        }
+                    }
+                }
+            }
+        }
+    }
+}
+
+#[test]
+fn serves_the_links_beside_the_firmware(rt: HostRuntime) -> Result<(), Fail> {
+    let gate = HoldGate {
+        held: AtomicBool::new(false),
+        steps: AtomicU64::new(0),
+        came: AtomicBool::new(false),
+    };
+    let mut out = Vec::new(rt.alloc());
+    let ended = run_top(
+        &rt,
+        rt.alloc(),
+        &["run", "h", "b"],
+        &[("h", SELECTS.as_bytes()), ("b", b"")],
+        (&[], &[]),
+        &gate,
+        &mut out,
+    )?;
+    assert!(rt; gate.came.load(SeqCst));
+    assert_eq!(rt; (ended.status, ended.end), (0, EndKind::Break));
     Ok(())
 }

@@ -18,7 +18,7 @@ use wz_base::{LineBuffer, Sink, WriteError, write_all};
 
 /// The written forms, each on a line of its own.
 const FORMS: &str =
-    "sim HEX BOARD\ntrace HEX BOARD\ncheck HEX BOARD\nbus SCRIPT\njudge TRACE\nlist HEX\ngen N\n--help\n";
+    "run HEX BOARD\nsim HEX BOARD\ntrace HEX BOARD\ncheck HEX BOARD\nbus SCRIPT\njudge TRACE\nlist HEX\ngen N\n--help\n";
 
 /// Prints the written forms.
 pub fn help<K: Sink>(alloc: Global, out: &mut K) -> QuickEnd

@@ -34,7 +34,14 @@ pub enum Command<'a> {
         /// The name of the file.
         name: &'a str,
     },
-    /// A command on a firmware image and a board.
+    /// `run HEX BOARD`: runs a firmware image on a board over links, live.
+    Run {
+        /// The name of the image's file.
+        image: &'a str,
+        /// The name of the board's file.
+        board: &'a str,
+    },
+    /// A command on a firmware image and a board that is none of a live run.
     OnBoard {
         /// What is asked.
         what: BoardCommand,
@@ -137,9 +144,12 @@ fn on_board<'a>(word: &str, image: &'a str, board: &'a str) -> Option<Command<'a
     if !(is_operand(image) && is_operand(board)) {
         return None;
     }
-    match board_command(word) {
-        Some(what) => Some(Command::OnBoard { what, image, board }),
-        None => None,
+    match word {
+        "run" => Some(Command::Run { image, board }),
+        _ => match board_command(word) {
+            Some(what) => Some(Command::OnBoard { what, image, board }),
+            None => None,
+        },
     }
 }
 

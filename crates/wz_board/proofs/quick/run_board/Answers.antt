@@ -1,13 +1,6 @@
-use Rattle.std.proofs.Common.{Err, refl}
-use Rattle.wz_board.specs.Reads.{counts}
+use Rattle.wz_board.proofs.Loaded.{reports_unloaded}
 use Rattle.wz_board.proofs.quick.run_board.Goals as goal
 
-pub returns : goal.returns
-returns g c = record {
-  first = Err c.in-Err.error;
-  between = counts (g.F.Source.misses c.read_operand.new.files) (g.F.Source.faults c.read_operand.new.files);
-  second = Err c.in-Err.error;
-  read_first = c.in-Err.ensures.read;
-  read_second = refl;
-  ran = c.unread-in-Err.ensures;
-}
+pub returns-in-Err : goal.returns-in-Err
+returns-in-Err g c =
+    reports_unloaded _ _ _ c.args.what c.args.image.now c.args.board.now c.load_both.result c.in-Err.error c.not_loaded.result _ _ _ _ c.load_both.ensures.loads c.in-Err.is c.not_loaded.ensures

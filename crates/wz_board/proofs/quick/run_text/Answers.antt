@@ -12,5 +12,5 @@ pub returns-in-Err : goal.returns-in-Err
 returns-in-Err g c = record {
   reading = Err c.in-Err.error;
   read = c.in-Err.ensures.read;
-  ran = c.unread.ensures;
+  ran = rw c.unread.ensures at c.not_loaded.ensures;
 }
