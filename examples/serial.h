@@ -41,6 +41,16 @@ static inline void serial_number(uint16_t number)
         serial_put('0' + number / unit % 10);
 }
 
+/* The same of a greater number. */
+static inline void serial_long(uint32_t number)
+{
+    uint32_t unit = 1000000000;
+    while (unit > 1 && number < unit)
+        unit /= 10;
+    for (; unit != 0; unit /= 10)
+        serial_put('0' + number / unit % 10);
+}
+
 /* Waits until the last byte has left. */
 static inline void serial_end(void)
 {

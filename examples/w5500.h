@@ -55,6 +55,7 @@ static inline void spi_begin(void)
 #define SUBR 0x0005
 #define SHAR 0x0009
 #define SIPR 0x000F
+#define SIR 0x0017
 #define SIMR 0x0018
 #define VERSIONR 0x0039
 
@@ -66,6 +67,8 @@ static inline void spi_begin(void)
 #define SN_PORT 0x04
 #define SN_DIPR 0x0C
 #define SN_DPORT 0x10
+#define SN_RXBUF_SIZE 0x1E
+#define SN_TXBUF_SIZE 0x1F
 #define SN_TX_FSR 0x20
 #define SN_TX_WR 0x24
 #define SN_RX_RSR 0x26
@@ -77,6 +80,7 @@ static inline void spi_begin(void)
 #define UDP 2
 #define OPEN 0x01
 #define LISTEN 0x02
+#define CONNECT 0x04
 #define DISCON 0x08
 #define CLOSE 0x10
 #define SEND 0x20
@@ -89,6 +93,7 @@ static inline void spi_begin(void)
 #define SOCK_CLOSED 0x00
 #define SOCK_INIT 0x13
 #define SOCK_LISTEN 0x14
+#define SOCK_SYNSENT 0x15
 #define SOCK_ESTABLISHED 0x17
 #define SOCK_CLOSE_WAIT 0x1C
 #define SOCK_UDP 0x22
