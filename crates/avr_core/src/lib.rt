@@ -26,6 +26,3 @@ pub use code::Code;
 pub use cpu::Core;
 pub use memory::Memory;
 pub use went::{AvrStop, Went};
-
-#[cfg(test)]
-mod tests;

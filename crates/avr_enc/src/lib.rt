@@ -11,6 +11,3 @@ pub mod writer;
 pub use encoder::encode;
 pub use line::{Line, TEXT_ROOM};
 pub use writer::{line_of, text};
-
-#[cfg(test)]
-mod tests;

@@ -13,6 +13,3 @@ mod ports;
 mod register;
 
 pub use ports::Ports;
-
-#[cfg(test)]
-mod tests;

@@ -13,6 +13,3 @@ pub use peer::ToldPeer;
 pub use run::run_told;
 pub use stretch::{Stretch, take_stretch};
 pub use turn::{Turn, take_turn};
-
-#[cfg(test)]
-mod tests;

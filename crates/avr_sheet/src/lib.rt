@@ -9,6 +9,3 @@ pub mod stop;
 
 pub use crate::bits::{is_set, weighed, with_bit};
 pub use crate::stop::DeviceStop;
-
-#[cfg(test)]
-mod tests;

@@ -13,6 +13,3 @@ pub use frames::{FramesError, frames_image};
 pub use generator::echo_peer;
 pub use laws::{echo_decodes, frames_decode};
 pub use words::echo_image;
-
-#[cfg(test)]
-mod tests;

@@ -24,6 +24,3 @@ pub use end::{ScriptEnd, ScriptStop};
 pub use fault::{ReadError, ScriptFault, ScriptKind};
 pub use scripts::script;
 pub use token::{LinkStep, LinkToken, Token};
-
-#[cfg(test)]
-mod tests;

@@ -19,6 +19,3 @@ mod verdict;
 
 pub use end::{JudgeEnd, JudgeFault, JudgeStop};
 pub use judging::judge;
-
-#[cfg(test)]
-mod tests;

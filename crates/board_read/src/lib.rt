@@ -4,5 +4,3 @@
 pub mod bytes;
 pub mod cuts;
 pub mod numbers;
-#[cfg(test)]
-mod tests;

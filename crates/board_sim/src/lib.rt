@@ -11,6 +11,4 @@ mod peer;
 mod play;
 pub mod report;
 pub mod runs;
-#[cfg(test)]
-mod tests;
 pub mod trace;

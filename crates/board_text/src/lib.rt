@@ -5,5 +5,3 @@ pub mod answers;
 pub mod entries;
 pub mod firmware;
 pub mod stops;
-#[cfg(test)]
-mod tests;

@@ -2,4 +2,4 @@ mod Opens
 mod Quiet
 mod Counting
 mod Reserved
-mod Reaching
+pub mod Reaching

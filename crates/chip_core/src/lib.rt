@@ -8,8 +8,6 @@ mod counts;
 mod exchange;
 pub mod laws;
 mod tally;
-#[cfg(test)]
-mod tests;
 
 pub use chip::Chip;
 pub use tally::Tally;

@@ -7,8 +7,6 @@
 pub mod history;
 mod kept;
 pub mod limits;
-#[cfg(test)]
-mod tests;
 
 pub use history::History;
 pub use kept::data_len;

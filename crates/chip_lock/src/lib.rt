@@ -12,6 +12,4 @@ mod kept;
 pub mod over;
 pub mod pass;
 mod table;
-#[cfg(test)]
-mod tests;
 pub mod turn;

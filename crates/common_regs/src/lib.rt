@@ -6,5 +6,3 @@
 
 pub mod laws;
 pub mod registers;
-#[cfg(test)]
-mod tests;

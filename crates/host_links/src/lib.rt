@@ -14,6 +14,3 @@ mod places;
 mod sockets;
 
 pub use pair::{HostFault, HostLinks, MioPoller, host_pair};
-
-#[cfg(test)]
-mod tests;

@@ -12,6 +12,3 @@ pub use flash::Image;
 pub use rows::store;
 pub use std::alloc::AllocError as NoMemory;
 pub use text::load;
-
-#[cfg(test)]
-mod tests;

@@ -5,5 +5,3 @@
 
 pub mod laws;
 pub mod lines;
-#[cfg(test)]
-mod tests;

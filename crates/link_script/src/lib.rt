@@ -12,6 +12,3 @@ pub mod wanted;
 
 pub use peer::{Chunk, Connects, Peer, PeerKind};
 pub use script_links::{PeerEnd, ScriptLinks};
-
-#[cfg(test)]
-mod tests;

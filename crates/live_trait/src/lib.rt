@@ -9,6 +9,3 @@ pub use gates::{Gate, OpenGate, Point};
 pub use listed::ListPoller;
 pub use waiting::Poller;
 pub use wz_base::Failed;
-
-#[cfg(test)]
-mod tests;

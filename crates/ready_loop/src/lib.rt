@@ -4,5 +4,3 @@
 #![tactic(auto)]
 
 pub mod ready;
-#[cfg(test)]
-mod tests;

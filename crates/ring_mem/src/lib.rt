@@ -15,5 +15,3 @@ mod pointers;
 mod receives;
 pub mod rings;
 mod sends;
-#[cfg(test)]
-mod tests;

@@ -11,5 +11,3 @@ pub mod laws;
 pub mod life;
 mod stops;
 mod table;
-#[cfg(test)]
-mod tests;

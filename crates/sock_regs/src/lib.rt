@@ -7,5 +7,3 @@
 
 pub mod laws;
 pub mod registers;
-#[cfg(test)]
-mod tests;

@@ -5,5 +5,3 @@
 #![tactic(auto)]
 
 pub mod framer;
-#[cfg(test)]
-mod tests;

@@ -15,6 +15,3 @@ pub use memory_sink::MemSink;
 pub use outside::{Failed, Files, PickFault, Sink, Source};
 pub use reading::{ReadError, read_whole};
 pub use writing::{WriteError, write_all};
-
-#[cfg(test)]
-mod tests;

@@ -6,6 +6,3 @@ pub mod standard_out;
 
 pub use standard_files::StdFiles;
 pub use standard_out::StdOut;
-
-#[cfg(test)]
-mod tests;

@@ -1,5 +1,0 @@
-use Rattle.chip_core.specs.Reached.{Reached}
-use Rattle.chip_core.proofs.tests.play.Given as goal
-
-abbrev pub invariant-loop-s : goal.invariant-loop-s
-invariant-loop-s g l = Reached l.bench.chip l.bench.count

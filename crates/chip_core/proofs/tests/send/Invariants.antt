@@ -1,5 +1,0 @@
-use Rattle.chip_core.specs.Reached.{Reached}
-use Rattle.chip_core.proofs.tests.send.Given as goal
-
-abbrev pub invariant-loop-byte : goal.invariant-loop-byte
-invariant-loop-byte g l = Reached l.bench.chip l.bench.count

@@ -1,0 +1,5 @@
+use Rattle.std.proofs.Common.{refl}
+use Rattle.link_rows.proofs.scripted.write_made.Goals as goal
+
+pub returns : goal.returns
+returns c = c.write.ensures.makes.stays c.args.c c.requires.made refl

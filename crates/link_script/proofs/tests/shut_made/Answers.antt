@@ -1,5 +1,0 @@
-use Rattle.std.proofs.Common.{refl}
-use Rattle.link_script.proofs.tests.shut_made.Goals as goal
-
-pub returns : goal.returns
-returns c = c.shut.ensures.makes.stays c.args.c c.requires.made refl

@@ -1,5 +1,0 @@
-use Rattle.std.proofs.Common.{refl}
-use Rattle.link_script.proofs.tests.write_made.Goals as goal
-
-pub returns : goal.returns
-returns c = c.write.ensures.makes.stays c.args.c c.requires.made refl

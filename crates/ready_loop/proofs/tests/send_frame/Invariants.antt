@@ -1,6 +1,0 @@
-use Rattle.std.proofs.Common.{◌≡◌}
-use Rattle.ready_loop.proofs.tests.send_frame.Given as goal
-
--- The pass stays one of these turns.
-abbrev pub invariant-loop-byte : goal.invariant-loop-byte
-invariant-loop-byte g l = l.pass.turn ≡ l.turn

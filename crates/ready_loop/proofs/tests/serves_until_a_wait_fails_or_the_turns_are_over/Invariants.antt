@@ -1,6 +1,0 @@
-use Rattle.std.proofs.Common.{◌≡◌}
-use Rattle.ready_loop.proofs.tests.serves_until_a_wait_fails_or_the_turns_are_over.Given as goal
-
--- The firmware's pass stays one of these turns.
-abbrev pub invariant-loop-frame : goal.invariant-loop-frame
-invariant-loop-frame g l = l.firmware.turn ≡ l.turn
