@@ -5,3 +5,4 @@ mod Shown
 mod Loaded
 mod Answered
 mod Topped
+mod Completed

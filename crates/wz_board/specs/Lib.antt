@@ -6,3 +6,4 @@ pub mod Loads
 pub mod Runs
 pub mod Outcome
 pub mod Tops
+pub mod Complete

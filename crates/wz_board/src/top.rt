@@ -1,7 +1,8 @@
 //! The top call: every command.
-ghost use Rattle.std.specs.Prelude.{◌≡◌, ◌≤◌, ◌⊎◌, ℕ, None, Some, true, false, map, string_bytes, IsSome, IfSome};
+ghost use Rattle.std.specs.Prelude.{◌≡◌, ◌≤◌, ◌⊎◌, ℕ, List, Option, None, Some, true, false, map, string_bytes, IsSome, IfSome};
 ghost use Rattle.wz_base.specs.Outside.{Rose, RisesOnly};
 ghost use Rattle.link_trait.specs.Shown.{IsFresh};
+ghost use Rattle.wz_board.specs.Complete.{Completes};
 ghost use Rattle.wz_board.specs.Ends.{status_of};
 ghost use Rattle.wz_board.specs.Reads.{counts};
 ghost use Rattle.wz_board.specs.Words.{asks_live, command_of};
@@ -130,8 +131,8 @@ fn perform<
 /// is full; `PollFault` where it wants one and the poller's count of faults rose. `WriteFault` comes exactly where the sink's count of
 /// faults rose, behind a prefix of the text. `NoMemory` may come at any time, behind a prefix of the text. No other end comes.
 ///
-/// So where a `run` names two files that hold an image and a board without a fault, and no call of files, sink and poller fails, the end
-/// is the firmware's own, the stop of an event that it wants, a full history, or `NoMemory`.
+/// So where no call of files, sink and poller fails, each form of words has the end that its texts say, or `NoMemory`; and a `run` of an
+/// image and a board without a fault has the firmware's own, or at an event that got no answer the chip's stop or a full history.
 pub fn top<
     R: Threads + Wait + Sync,
     F: Files,
@@ -169,6 +170,12 @@ pub fn top<
     ensures write_faults { RisesOnly (result.end ≡ EndKind.WriteFault) (K.faults out.old) (K.faults out.new) }
     ensures poll_faults { result.end ≡ EndKind.PollFault → (asks_live (command_of (map string_bytes words.now)) ≡ true) × Rose (P.faults poller) (P.faults result.poller) }
     ensures polls { P.faults poller ≤ P.faults result.poller }
+
+    // Where the files are told, and no call of files, sink and poller fails, memory ran out, or the end is that of the words, of what the
+    // files hold, and of the firmware's run.
+    ensures complete { (held : List ℕ → Option (List ℕ)) → F.held files.old ≡ Some held
+        → (Rose (F.faults files.old) (F.faults files.new) → ⊥) → (Rose (K.faults out.old) (K.faults out.new) → ⊥) → (Rose (P.faults poller) (P.faults result.poller) → ⊥)
+        → (result.end ≡ EndKind.NoMemory) ⊎ Completes held (command_of (map string_bytes words.now)) result.history.past result.end }
 {
     perform(rt, alloc, words, files, out, links, poller, gate)
 }

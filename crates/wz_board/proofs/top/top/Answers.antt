@@ -1,3 +1,4 @@
+use Rattle.wz_board.proofs.Completed.{completed}
 use Rattle.wz_board.proofs.Topped.{top_follows}
 use Rattle.wz_board.proofs.top.top.Goals as goal
 
@@ -33,3 +34,7 @@ returns-clause-poll_faults g c = (top_follows _ _ _ _ _ _ _ _ c.perform.result _
 
 pub returns-clause-polls : goal.returns-clause-polls
 returns-clause-polls g c = (top_follows _ _ _ _ _ _ _ _ c.perform.result _ _ _ _ c.perform.ensures.reports).later
+
+pub returns-clause-complete : goal.returns-clause-complete
+returns-clause-complete g c = λ held told reads writes waits.
+    completed _ _ _ held _ _ _ _ _ c.perform.result _ _ _ _ told c.perform.ensures.reports reads (λ is. writes ((top_follows _ _ _ _ _ _ _ _ c.perform.result _ _ _ _ c.perform.ensures.reports).written.rose is)) waits
