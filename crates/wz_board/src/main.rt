@@ -6,6 +6,8 @@
 
 mod boards;
 mod end;
+#[cfg(test)]
+mod host_tests;
 mod left;
 mod loading;
 mod quick;
