@@ -13,14 +13,19 @@ use link_trait::links::Links;
 use std::alloc::Global;
 use std::marker::Model;
 
-/// The shared state, the first cause for which turns ended, how many passes have not ended, and the event that was asked last. The
-/// state stands in a box: a turn moves it out of the table and back.
+/// The shared state, the first cause for which turns ended, how many passes have not ended, and the event that was asked last.
 #[derive(Drop)]
-pub(crate) struct Kept<L: Links> {
-    shared: Box<Shared<L>>,
+struct Held<L: Links> {
+    shared: Shared<L>,
     cause: Option<Over>,
     live: u64,
     last: BusEvent,
+}
+
+/// What a turn takes out of the table and puts back. It stands in a box, so that a turn moves one word.
+#[derive(Drop)]
+pub(crate) struct Kept<L: Links> {
+    held: Box<Held<L>>,
 }
 
 impl<L: Links> Model for Kept<L> {
@@ -28,9 +33,9 @@ impl<L: Links> Model for Kept<L> {
 
     ghost Value = { KeptState L };
 
-    ghost view = { λ k. record { state = k.shared.value; cause = k.cause; live = k.live; last = k.last } };
+    ghost view = { λ k. record { state = k.held.value.shared; cause = k.held.value.cause; live = k.held.value.live; last = k.held.value.last } };
 
-    ghost invariant = { λ k. IsKept k.shared.value k.cause k.live };
+    ghost invariant = { λ k. IsKept k.held.value.shared k.held.value.cause k.held.value.live };
 }
 
 /// Makes room for the next turns of so many passes. Where there is no memory for it, that is a cause to end.
@@ -68,14 +73,23 @@ impl<L: Links> Kept<L> {
         if renew(&mut shared, 2).is_some() {
             return Err(shared);
         }
-        match Box::new(alloc, shared) {
-            Ok(shared) => Ok(Kept {
-                shared,
-                cause: None,
-                live: 2,
-                last: BusEvent::Look,
-            }),
-            Err(refused) => Err(refused.value),
+        let held = Held {
+            shared,
+            cause: None,
+            live: 2,
+            last: BusEvent::Look,
+        };
+        match Box::new(alloc, held) {
+            Ok(held) => Ok(Kept { held }),
+            Err(refused) => {
+                let Held {
+                    shared,
+                    cause: _,
+                    live: _,
+                    last: _,
+                } = refused.value;
+                Err(shared)
+            }
         }
     }
 
@@ -87,10 +101,11 @@ impl<L: Links> Kept<L> {
         ensures takes { TakesOne self.old self.new }
         ensures finds { FindsNone self.old.cause self.new.cause }
     {
-        self.shared.rest();
-        let kept = self.cause.unwrap_or(why);
-        self.cause = Some(kept);
-        self.live -= 1;
+        let held = &mut *self.held;
+        held.shared.rest();
+        let kept = held.cause.unwrap_or(why);
+        held.cause = Some(kept);
+        held.live -= 1;
         kept
     }
 
@@ -106,18 +121,19 @@ impl<L: Links> Kept<L> {
         ensures finds { FindsWith e self.old self.new }
         ensures gives { GivesNone self.old.cause self.new.cause }
     {
-        if let Some(why) = self.cause {
+        if let Some(why) = self.held.cause {
             return Err(self.end(why));
         }
-        self.last = e;
-        match self.shared.bus_step(e) {
+        let held = &mut *self.held;
+        held.last = e;
+        match held.shared.bus_step(e) {
             Ok(a) => {
-                self.cause = renew(&mut *self.shared, self.live);
+                held.cause = renew(&mut held.shared, held.live);
                 Ok(a)
             }
             Err(end) => {
                 let why = over_by(end);
-                self.cause = Some(why);
+                held.cause = Some(why);
                 Err(self.end(why))
             }
         }
@@ -136,17 +152,18 @@ impl<L: Links> Kept<L> {
         ensures finds { FindsNone self.old.cause self.new.cause }
         ensures gives { GivesNone self.old.cause self.new.cause }
     {
-        if let Some(why) = self.cause {
+        if let Some(why) = self.held.cause {
             return Err(self.end(why));
         }
-        match self.shared.link_step(from) {
+        let held = &mut *self.held;
+        match held.shared.link_step(from) {
             Ok(did) => {
-                self.cause = renew(&mut *self.shared, self.live);
+                held.cause = renew(&mut held.shared, held.live);
                 Ok(did)
             }
             Err(end) => {
                 let why = over_by(end);
-                self.cause = Some(why);
+                held.cause = Some(why);
                 Err(self.end(why))
             }
         }
@@ -157,12 +174,13 @@ impl<L: Links> Kept<L> {
         ensures value { result ≡ self.state }
         ensures leaves { Leaves self.state self.cause }
     {
-        let Kept {
+        let Kept { held } = self;
+        let Held {
             shared,
             cause: _,
             live: _,
             last: _,
-        } = self;
-        Box::into_inner(shared)
+        } = Box::into_inner(held);
+        shared
     }
 }

@@ -3,7 +3,7 @@
 //! A turn is taken with a ticket: a call draws the next one, waits until it is served, and takes the state out; it makes its step, puts
 //! the state back, and the next ticket is served. Tickets are served in the order in which they were drawn, so a thread that waits has
 //! its turn as soon as all that drew before it have had theirs. A thread that waits looks on for a short while, and then sleeps until a
-//! ticket is served.
+//! ticket is served; it counts itself among those asleep before, so that a turn behind which nobody sleeps wakes none.
 ghost use Rattle.std.specs.Prelude.{◌≡◌, ◌<◌, [], None, Some, IfOk, IfErr};
 ghost use Rattle.chip_lock.specs.Overs.{IsGiven};
 ghost use Rattle.chip_shared.specs.State.{Keeps};
@@ -21,14 +21,18 @@ use std::hint::spin_loop;
 use std::marker::Model;
 use std::snapshot::Snapshot;
 use std::sync::Wait;
+use std::sync::atomic::AtomicU64;
+use std::sync::atomic::Ordering::SeqCst;
 
-/// How often a thread that waits for its turn looks on before it sleeps.
-const MOST_LOOKS: u32 = 100;
+/// How often a thread that waits for its turn looks on before it sleeps: longer than it takes to wake the other one.
+const MOST_LOOKS: u32 = 1000;
 
 /// The state that two passes take turns at. Contracts see which turns these are.
 #[derive(Drop)]
 pub struct Turn<L: Links> {
     table: Table<Option<Kept<L>>, View, Snapshot<Shared<L>>, Order<L>, Global>,
+    /// How many threads sleep or are about to. It decides who is woken, and nothing else.
+    asleep: AtomicU64,
 }
 
 impl<L: Links> Model for Turn<L> {
@@ -55,9 +59,12 @@ impl<L: Links> Turn<L> {
             spin_loop();
             return looks + 1;
         }
+        // It sleeps only while that ticket is served still: who serves the next one behind this count wakes it.
+        self.asleep.fetch_add(1, SeqCst);
         self.table
             .shared
             .park(rt, SERVING, (served & 0xFFFF_FFFF) as u32);
+        self.asleep.fetch_sub(1, SeqCst);
         looks
     }
 
@@ -106,9 +113,9 @@ impl<L: Links> Turn<L> {
             None => {}
             Some(_) => unreachable!(),
         }
-        let served = shared.fetch_add::<Leave>(seat, SERVING, 1);
-        // Where no further ticket is drawn, nobody waits. Who draws one behind this look finds the next ticket served.
-        if shared.peek(TICKET) != served.wrapping_add(1) {
+        shared.fetch_add::<Leave>(seat, SERVING, 1);
+        // Who counts itself behind this look finds the next ticket served, and does not sleep.
+        if self.asleep.load(SeqCst) != 0 {
             shared.wake_all(SERVING);
         }
     }
@@ -140,7 +147,8 @@ impl<L: Links> Turn<L> {
                     seat: other,
                     ended: None,
                 };
-                Ok((Turn { table }, first, second))
+                let asleep = AtomicU64::new(0);
+                Ok((Turn { table, asleep }, first, second))
             }
             Err(refused) => {
                 let Refused { mut slots } = refused;
@@ -236,7 +244,7 @@ impl<L: Links> Turn<L> {
         requires second { (other.table_id ≡ self) × Resting other.me }
         ensures { Gathered seat.me.0 other.me.0 result }
     {
-        let Turn { table } = self;
+        let Turn { table, asleep: _ } = self;
         table.shared.join_seat::<Halves>(&mut seat, other);
         let mut closed = table.close_with(seat);
         let kept = closed.take(0).unwrap();

@@ -8,8 +8,8 @@ exchange-requires g c =
     let has = c.requires.out.slot in
     (c.requires.table ∙ sym c.self.view_is, (None, has ∙ ap (λ l. (0, None) ∷ rest l) (sym has)))
 
-pub fetch_add-served-requires : goal.fetch_add-served-requires
-fetch_add-served-requires g c =
+pub fetch_add-requires : goal.fetch_add-requires
+fetch_add-requires g c =
     let r = c.requires in
     let now = c.exchange.ensures.3 ∙ ap (λ l. (c.args.seat.now.me.0, (0, Some c.args.kept) ∷ rest l)) r.out.slot in
     (c.exchange.ensures.0 ∙ r.table ∙ sym c.self.view_is, omega (arith, c.self.invariant.0), leaves_as _ _ _ c.args.seat.now.me.0 _ c.args.kept now r.out.inside r.out.one r.may)
