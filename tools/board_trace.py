@@ -1,7 +1,7 @@
 """Reads the traces that `./wz_board trace` prints, and follows the chip through them, for the tools of this folder.
 
-The forms are those of docs/FORMATS.md, "Traces". A trace that has another form is a Fault with the number of its line. Whether the chip
-allows what stands there is not asked here; `./wz_board judge` says that.
+The forms are those of docs/FORMATS.md, "Traces". A trace that has another form is a Fault with the number of its line. Whether
+the chip allows what stands there is not asked here; `./wz_board judge` says that.
 """
 import contextlib
 import os
@@ -67,8 +67,8 @@ def address(text):
 
 
 def link_event(socket, words):
-    """A link event of a socket by the words behind its number, or None. Its values: the socket, the name, bytes or a count, and the
-    address and port of a peer."""
+    """A link event of a socket by the words behind its number, or None. Its values: the socket, the name, bytes or a
+    count, and the address and port of a peer."""
     name = words[0]
     if name in ("linked", "refused", "timedout", "ended", "shut", "failed", "dropped"):
         return (LINK, socket, name, None, None) if len(words) == 1 else None
@@ -116,7 +116,7 @@ def without_end(line):
 
 
 class Trace:
-    """A trace that is read line by line: its version and start pointers, and an iterator of its events with their numbers from 0."""
+    """A trace that is read line by line: its version and start pointers, and its events with their numbers from 0."""
 
     def __init__(self, file):
         self.file = file
@@ -439,7 +439,7 @@ def opened(name):
 
 @contextlib.contextmanager
 def written(name):
-    """A file to write bytes to by its name; `-` is standard output. The file is there once all of it is written, and not before."""
+    """A file to write bytes to by its name; `-` is standard output. It is there once all of it is written, and not before."""
     if name == "-":
         yield sys.stdout.buffer
         sys.stdout.buffer.flush()
@@ -459,7 +459,7 @@ def written(name):
 
 
 def run(tool, main):
-    """Runs a tool: its status is 2 behind one line on standard error where something is wrong. A closed pipe ends it without a word."""
+    """Runs a tool. Where something is wrong, one line on standard error and status 2; a closed pipe ends it without a word."""
     signal.signal(signal.SIGPIPE, signal.SIG_DFL)
     try:
         main()
