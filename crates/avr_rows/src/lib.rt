@@ -1,5 +1,5 @@
-//! Worked rows of the microcontroller's parts, by values worked by hand from the manuals: images, arithmetic, encoding, the core and the
-//! devices. Nothing stands on it.
+//! Worked rows of the microcontroller's parts, by values worked by hand from the manuals: images, arithmetic, encoding and the core.
+//! Nothing stands on it.
 #![tactic(auto)]
 
 #[cfg(test)]
@@ -14,9 +14,3 @@ mod hex_text;
 mod image;
 #[cfg(test)]
 mod instructions;
-#[cfg(test)]
-mod ports;
-#[cfg(test)]
-mod serial;
-#[cfg(test)]
-mod timers;
