@@ -51,4 +51,5 @@ echo_script n = record {
   say = sayings n;
   end = Some (said_length n);
   fail = 0;
+  lag = 0;
 }

@@ -89,5 +89,6 @@ pub fn echo_peer(alloc: Global, n: u64) -> Result<Peer, AllocError>
         say: sayings(alloc, n)?,
         end: Some(said_length(n)),
         fail: 0,
+        lag: 0,
     })
 }

@@ -1,7 +1,7 @@
 -- The keys of board files, as they are written and printed.
 use Rattle.std.specs.Prelude.{ℕ, List, codes}
 use Rattle.board_file.specs.declared.fault.Key.{Key}
-use Rattle.board_file.specs.declared.fault.Key.TheVariants.{TxStart, RxStart, Events, Cycles, Listen, Route, Peer, Chip, Host, Addr, Port, HostPort, Kind, Connect, Takes, Room, Say, After, End, Fail, File, Unknown}
+use Rattle.board_file.specs.declared.fault.Key.TheVariants.{TxStart, RxStart, Events, Cycles, Listen, Route, Peer, Chip, Host, Addr, Port, HostPort, Kind, Connect, Takes, Room, Say, After, End, Fail, Lag, File, Unknown}
 
 abbrev pub word : Key → List ℕ
 word TxStart = codes "tx_start"
@@ -24,5 +24,6 @@ word Say = codes "say"
 word After = codes "after"
 word End = codes "end"
 word Fail = codes "fail"
+word Lag = codes "lag"
 word File = codes "file"
 word Unknown = codes "unknown"

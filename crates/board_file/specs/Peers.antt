@@ -68,14 +68,17 @@ end_row = says key.End (optional None (some_number 0 16777216))
 abbrev pub fail_row : ℕ → Members → Result ℕ BoardFault
 fail_row = number_or key.Fail 0 1 4294967295
 
+abbrev pub lag_row : ℕ → Members → Result ℕ BoardFault
+lag_row = number_or key.Lag 0 0 65535
+
 -- The keys of a peer.
 abbrev pub peer_keys : PeerKind → List Key
 peer_keys Client =
-    key.Kind ∷ key.Addr ∷ key.Port ∷ key.Chip ∷ key.Takes ∷ key.Room ∷ key.Say ∷ key.After ∷ key.End ∷ key.Fail ∷ []
+    key.Kind ∷ key.Addr ∷ key.Port ∷ key.Chip ∷ key.Takes ∷ key.Room ∷ key.Say ∷ key.After ∷ key.End ∷ key.Fail ∷ key.Lag ∷ []
 peer_keys Server =
-    key.Kind ∷ key.Addr ∷ key.Port ∷ key.Connect ∷ key.Takes ∷ key.Room ∷ key.Say ∷ key.After ∷ key.End ∷ key.Fail ∷ []
+    key.Kind ∷ key.Addr ∷ key.Port ∷ key.Connect ∷ key.Takes ∷ key.Room ∷ key.Say ∷ key.After ∷ key.End ∷ key.Fail ∷ key.Lag ∷ []
 peer_keys Udp =
-    key.Kind ∷ key.Addr ∷ key.Port ∷ key.Chip ∷ key.Takes ∷ key.Room ∷ key.Say ∷ key.After ∷ key.End ∷ key.Fail ∷ []
+    key.Kind ∷ key.Addr ∷ key.Port ∷ key.Chip ∷ key.Takes ∷ key.Room ∷ key.Say ∷ key.After ∷ key.End ∷ key.Fail ∷ key.Lag ∷ []
 
 -- Chunks, each with its number of `after`.
 abbrev pub said : List ℕ → List (List ℕ) → List Said
@@ -101,6 +104,7 @@ peer entry table = do
   say ← sayings entry table
   end ← end_row entry table
   fail ← fail_row entry table
+  lag ← lag_row entry table
   known ← only_known (peer_keys kind) entry table
   Ok (record {
     kind = kind;
@@ -112,4 +116,5 @@ peer entry table = do
     say = say;
     end = end;
     fail = fail;
+    lag = lag;
   })

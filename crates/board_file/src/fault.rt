@@ -49,6 +49,8 @@ pub enum Key {
     End,
     /// Which call of a peer fails.
     Fail,
+    /// How often a peer answers NotYet before each move.
+    Lag,
     /// The whole file, where it is no TOML.
     File,
     /// A key that its table does not have.
@@ -81,6 +83,7 @@ impl Key {
             Key::After => "after",
             Key::End => "end",
             Key::Fail => "fail",
+            Key::Lag => "lag",
             Key::File => "file",
             Key::Unknown => "unknown",
         }

@@ -33,6 +33,13 @@ const FAIL: NumberRow = NumberRow {
     most: 4_294_967_295,
 };
 
+const LAG: NumberRow = NumberRow {
+    key: Key::Lag,
+    default: 0,
+    least: 0,
+    most: 65_535,
+};
+
 fn kind_named(name: &str) -> Option<PeerKind>
     ensures { result ≡ kind_named name.now }
 {
@@ -222,6 +229,7 @@ fn only_of_kind(table: &Table, kind: PeerKind, entry: u32) -> Result<(), BoardFa
         Key::After,
         Key::End,
         Key::Fail,
+        Key::Lag,
     ];
     only_known(table, &keys, entry)
 }
@@ -240,6 +248,7 @@ fn peer(alloc: Global, table: &Table, entry: u32) -> Result<Peer, BoardError>
     let say = sayings(alloc, table, entry)?;
     let end = end(table, entry)?;
     let fail = number_or(table, FAIL, entry)?;
+    let lag = number_or(table, LAG, entry)?;
     only_of_kind(table, kind, entry)?;
     Ok(Peer {
         kind,
@@ -251,6 +260,7 @@ fn peer(alloc: Global, table: &Table, entry: u32) -> Result<Peer, BoardError>
         say,
         end,
         fail: fail as u32,
+        lag: lag as u16,
     })
 }
 

@@ -42,15 +42,15 @@ const TEXTS: [(&str, &str); 12] = [
     ),
     (
         "[[peer]]\nkind = 'client'\naddr = '10.0.0.3'\nport = 1234\nchip = 7\n",
-        "0 0 33554432 1099511627776 [] [] [Peer { kind: Client, addr: Addr { ip: [10, 0, 0, 3], port: 1234 }, chip: 7, connect: Fine, takes: [], room: 65536, say: [], end: None, fail: 0 }]",
+        "0 0 33554432 1099511627776 [] [] [Peer { kind: Client, addr: Addr { ip: [10, 0, 0, 3], port: 1234 }, chip: 7, connect: Fine, takes: [], room: 65536, say: [], end: None, fail: 0, lag: 0 }]",
     ),
     (
-        "[[peer]]\nkind = 'server'\naddr = '10.0.0.2'\nport = 80\nconnect = 'refused'\ntakes = [0, 65536, 3]\nroom = 0\nsay = ['', '68aF']\nafter = [0, 16777216]\nend = 5\nfail = 4294967295\n",
-        "0 0 33554432 1099511627776 [] [] [Peer { kind: Server, addr: Addr { ip: [10, 0, 0, 2], port: 80 }, chip: 0, connect: Refused, takes: [0, 65536, 3], room: 0, say: [Chunk { after: 0, bytes: [] }, Chunk { after: 16777216, bytes: [104, 175] }], end: Some(5), fail: 4294967295 }]",
+        "[[peer]]\nkind = 'server'\naddr = '10.0.0.2'\nport = 80\nconnect = 'refused'\ntakes = [0, 65536, 3]\nroom = 0\nsay = ['', '68aF']\nafter = [0, 16777216]\nend = 5\nfail = 4294967295\nlag = 65535\n",
+        "0 0 33554432 1099511627776 [] [] [Peer { kind: Server, addr: Addr { ip: [10, 0, 0, 2], port: 80 }, chip: 0, connect: Refused, takes: [0, 65536, 3], room: 0, say: [Chunk { after: 0, bytes: [] }, Chunk { after: 16777216, bytes: [104, 175] }], end: Some(5), fail: 4294967295, lag: 65535 }]",
     ),
     (
         "[[peer]]\nkind = 'udp'\naddr = '1.2.3.4'\nport = 9\nchip = 65535\nsay = ['00']\n",
-        "0 0 33554432 1099511627776 [] [] [Peer { kind: Udp, addr: Addr { ip: [1, 2, 3, 4], port: 9 }, chip: 65535, connect: Fine, takes: [], room: 65536, say: [Chunk { after: 0, bytes: [0] }], end: None, fail: 0 }]",
+        "0 0 33554432 1099511627776 [] [] [Peer { kind: Udp, addr: Addr { ip: [1, 2, 3, 4], port: 9 }, chip: 65535, connect: Fine, takes: [], room: 65536, say: [Chunk { after: 0, bytes: [0] }], end: None, fail: 0, lag: 0 }]",
     ),
     ("tx_start = 1\ntx_start = 1", "file 0 BadToml"),
     ("rx_start = -1\ntx_start = 0.5", "tx_start 0 WrongType"),
@@ -169,7 +169,12 @@ peer = [{ kind = 'server', addr = '1.1.1.1', port = 1, say = ['0g', 1] }] -> say
 peer = [{ kind = 'server', addr = '1.1.1.1', port = 1, after = [0] }] -> after 0 BadText
 peer = [{ kind = 'server', addr = '1.1.1.1', port = 1, say = ['00'], after = [16777217, 0] }] -> after 0 OutOfRange
 peer = [{ kind = 'server', addr = '1.1.1.1', port = 1, end = true }] -> end 0 WrongType
-peer = [{ kind = 'server', addr = '1.1.1.1', port = 1, fail = 0 }] -> fail 0 OutOfRange";
+peer = [{ kind = 'server', addr = '1.1.1.1', port = 1, fail = 0 }] -> fail 0 OutOfRange
+peer = [{ kind = 'server', addr = '1.1.1.1', port = 1, lag = '', fail = 0 }] -> fail 0 OutOfRange
+peer = [{ kind = 'client', addr = '1.1.1.1', port = 1, chip = 7, lag = 65536, x = 1 }] -> lag 0 OutOfRange
+peer = [{ kind = 'server', addr = '1.1.1.1', port = 1, lag = -1 }] -> lag 0 OutOfRange
+peer = [{ kind = 'udp', addr = '1.1.1.1', port = 1, chip = 7, lag = '2' }] -> lag 0 WrongType
+peer = [{ kind = 'udp', addr = '1.1.1.1', port = 1, chip = 7, lag = 2, lags = 1 }] -> unknown 0 Unknown";
 
 #[test]
 fn finds_the_first_fault(rt: HostRuntime) -> Result<(), Fail> {

@@ -41,6 +41,7 @@ struct Case {
     say: &'static [(u32, &'static [u8])],
     end: Option<u32>,
     fail: u32,
+    lag: u16,
     steps: &'static [Step],
 }
 
@@ -51,6 +52,7 @@ const CASES: [Case; 5] = [
         say: &[],
         end: None,
         fail: 0,
+        lag: 0,
         steps: &[
             Step::Write(b"abcde", Writing::Done(2)),
             Step::Write(b"cde", Writing::NotYet),
@@ -65,6 +67,7 @@ const CASES: [Case; 5] = [
         say: &[(0, b"abc")],
         end: None,
         fail: 0,
+        lag: 0,
         steps: &[
             Step::Write(b"abcd", Writing::Done(3)),
             Step::Write(b"d", Writing::NotYet),
@@ -79,6 +82,7 @@ const CASES: [Case; 5] = [
         say: &[(0, b"hi"), (9, b""), (2, b"yo")],
         end: Some(4),
         fail: 0,
+        lag: 0,
         steps: &[
             Step::Read(4, Reading::Done(2), b"hi"),
             Step::Read(4, Reading::NotYet, b""),
@@ -95,6 +99,7 @@ const CASES: [Case; 5] = [
         say: &[(0, b"hi")],
         end: Some(0),
         fail: 2,
+        lag: 0,
         steps: &[
             Step::Write(b"ab", Writing::Done(2)),
             Step::Read(4, Reading::Failed, b""),
@@ -109,6 +114,7 @@ const CASES: [Case; 5] = [
         say: &[],
         end: None,
         fail: 1,
+        lag: 0,
         steps: &[
             Step::Shut(Shutting::Failed),
             Step::Shut(Shutting::Done),
@@ -136,6 +142,7 @@ fn peer_of(alloc: Global, kind: PeerKind, case: &Case) -> Result<Peer, AllocErro
         say,
         end: case.end,
         fail: case.fail,
+        lag: case.lag,
     })
 }
 
@@ -369,6 +376,7 @@ const DATAGRAMS: Case = Case {
     say: &[(0, b"hi")],
     end: None,
     fail: 7,
+    lag: 0,
     steps: &[],
 };
 

@@ -39,6 +39,7 @@ fn server(alloc: Global) -> Peer {
         say: Vec::new(alloc),
         end: None,
         fail: 0,
+        lag: 0,
     }
 }
 

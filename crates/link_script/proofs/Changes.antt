@@ -7,8 +7,8 @@ use Rattle.link_script.specs.Acting.{Acting}
 use Rattle.link_trait.specs.Calls.{Call}
 use Rattle.chip_sheet.specs.LinkAnswers.{LinkAnswer, TimedOut}
 use Rattle.chip_sheet.specs.declared.event.ConnId.{ConnId}
-use Rattle.link_script.specs.Acting.{peer_after, peer_answer, is_serving, begun}
-use Rattle.link_script.specs.Play.{Played, acted_by, lost_after, change_first, server_in, peers_by, answer_or, met_by, refused_by, refusal, suits}
+use Rattle.link_script.specs.Acting.{peer_after, peer_answer, is_serving, asked}
+use Rattle.link_script.specs.Play.{Played, acted_by, lost_after, change_first, server_in, peers_by, answer_or, met_by, refused_by, suits}
 use Rattle.link_script.specs.declared.wanted.Wanted.{Wanted}
 use Rattle.link_script.specs.Start.{start_of}
 use Rattle.link_script.specs.declared.peer.PeerKind.TheVariants.{Client}
@@ -88,20 +88,20 @@ pub stays_none : (test : Acting → Bool) (f : Acting → Acting) (ps : List Act
 stays_none test f ps at = sym (change_none test f ps (sym at))
 
 nobody : Acting
-nobody = start_of (record { kind = Client; addr = record { ip = 0 ∷ 0 ∷ 0 ∷ 0 ∷ []; port = 0 }; chip = 0; connect = Fine; takes = []; room = 0; say = []; end = None; fail = 0 })
+nobody = start_of (record { kind = Client; addr = record { ip = 0 ∷ 0 ∷ 0 ∷ 0 ∷ []; port = 0 }; chip = 0; connect = Fine; takes = []; room = 0; say = []; end = None; fail = 0; lag = 0 })
 
 pub met_there : (tells : Bool) (ps : List Acting) (c : ConnId) (wanted : Wanted) (i : ℕ) → Some i ≡ position (is_serving c) ps
     → ps ≡ met_by tells ps c wanted (server_in ps c)
 met_there tells ps c wanted i at = rw (find_there (is_serving c) ps i (nobody) (sym at)) refl
 
 pub met_none : (tells : Bool) (ps qs : List Acting) (c : ConnId) (wanted : Wanted) → None ≡ position (is_serving c) ps
-    → qs ≡ change_first (suits wanted) (begun c tells) ps → qs ≡ met_by tells ps c wanted (server_in ps c)
+    → qs ≡ change_first (suits wanted) (asked c tells) ps → qs ≡ met_by tells ps c wanted (server_in ps c)
 met_none tells ps qs c wanted at e = rw (find_none (is_serving c) ps (sym at)) e
 
 pub refused_there : (ps : List Acting) (wanted : Wanted) (i : ℕ) (d : Acting) (a : LinkAnswer) → Some i ≡ position (suits wanted) ps
-    → d ≡ get_or ps i d → a ≡ refusal d.script.connect → a ≡ refused_by (find (suits wanted) ps)
+    → d ≡ get_or ps i d → a ≡ refused_by (Some d) → a ≡ refused_by (find (suits wanted) ps)
 refused_there ps wanted i d a at is e =
-    rw (find_there (suits wanted) ps i d (sym at)) (e ∙ ap (λ (q : Acting). refusal q.script.connect) is)
+    rw (find_there (suits wanted) ps i d (sym at)) (e ∙ ap (λ q. refused_by (Some q)) is)
 
 pub refused_none : (ps : List Acting) (wanted : Wanted) (a : LinkAnswer) → None ≡ position (suits wanted) ps → a ≡ TimedOut
     → a ≡ refused_by (find (suits wanted) ps)

@@ -7,7 +7,7 @@ use Rattle.chip_sheet.specs.LinkAnswers.{LinkAnswer, Done, DoneFrom, DoneWith, D
 use Rattle.chip_sheet.specs.Windows.{most_read}
 use Rattle.link_trait.specs.Calls.{Call, SetRoutes, Connect, Accept, Write, Read, SendTo, RecvFrom, Shut, DropConn, same, is_on}
 use Rattle.link_trait.specs.Shown.{gives, addresses, gets, makes, ends}
-use Rattle.link_script.specs.Acting.{Acting, fed, front, is_ready, part, countable, has_ended, moved, write_after, send_after, send_answer, takes_whole, takes_of, left_by, read_after, read_answer, read_from, receive_answer, receive_from, counted, fails, counted_answer, counted_after, peer_answer, peer_after, wrote, is_udp, entry, used_after}
+use Rattle.link_script.specs.Acting.{Acting, fed, front, is_ready, part, countable, has_ended, moved, write_after, send_after, send_answer, takes_whole, takes_of, left_by, lowered, puts_off, read_after, read_answer, read_from, receive_answer, receive_from, counted, fails, counted_answer, counted_after, peer_answer, peer_after, wrote, is_udp, entry, used_after}
 use Rattle.link_script.proofs.Hearing.{fed_moved}
 
 pub record Goes (p q : Acting) (call : Call) (answer : LinkAnswer) : Type 0 where
@@ -148,6 +148,16 @@ waiting_receives p passed q f r =
     let P : ℕ → Type 0 = λ n. gets (receive_from p (Some n)) ≡ [] in
     subst P (some_is passed q f) (body_none (is_ready p q) p.script.addr (part p q most_read) r)
 
+-- a read that is put off adds nothing
+put_off : (p q : Acting) (call : Call) (answer : LinkAnswer) → gives call NotYet ≡ [] → addresses call NotYet ≡ [] → Goes p q call answer
+    → Goes p (if puts_off p then lowered p else q) call (if puts_off p then NotYet else answer)
+put_off p q call answer g0 d0 h =
+    let go : (v : Bool) → Goes p (if v then lowered p else q) call (if v then NotYet else answer) = elim [
+      | true ↦ stays p (lowered p) call NotYet refl refl refl refl refl refl g0 d0 refl
+      | false ↦ h
+    ] in
+    go (puts_off p)
+
 read_goes : (p : Acting) (c : ConnId) (count : ℕ) → Goes p (read_after p count) (Read c count) (read_answer p count)
 read_goes p c count =
     let go : (o : Option ℕ) → front p ≡ o → Goes p (left_by p (countable count) o) (Read c count) (read_from p count o) = elim [
@@ -156,7 +166,7 @@ read_goes p c count =
       | Some passed ↦ (λ e. hears p (Read c count) (countable count) (read_from p count (Some passed)) (Some passed) e refl refl
           (λ q f r. ready_gets p passed q (countable count) f r) (λ f. absurd (cc)) (λ q f r. waiting_gets p passed q (countable count) f r))
     ] in
-    go (front p) refl
+    put_off p _ (Read c count) _ refl refl (go (front p) refl)
 
 receive_goes : (p : Acting) (c : ConnId) (port count : ℕ) → Goes p (read_after p most_read) (RecvFrom c port count) (receive_answer p)
 receive_goes p c port count =
@@ -166,7 +176,7 @@ receive_goes p c port count =
       | Some passed ↦ (λ e. hears p (RecvFrom c port count) most_read (receive_from p (Some passed)) (Some passed) e refl refl
           (λ q f r. ready_receives p passed q f r) (λ f. absurd (cc)) (λ q f r. waiting_receives p passed q f r))
     ] in
-    go (front p) refl
+    put_off p _ (RecvFrom c port count) _ refl refl (go (front p) refl)
 
 -- What every call keeps and adds.
 pub peer_goes : (p : Acting) (call : Call) → Goes p (peer_after p call) call (peer_answer p call)
@@ -199,6 +209,14 @@ made_read p count (Some passed) =
     let go : (v : Bool) → (if v then moved p passed (length (part p passed count)) else p).made ≡ p.made = elim [ true ↦ refl | false ↦ refl ] in
     go (is_ready p passed)
 
+made_put_off : (p : Acting) (count : ℕ) → (read_after p count).made ≡ p.made
+made_put_off p count =
+    let go : (v : Bool) → (if v then lowered p else left_by p (countable count) (front p)).made ≡ p.made = elim [
+      | true ↦ refl
+      | false ↦ made_read p (countable count) (front p)
+    ] in
+    go (puts_off p)
+
 made_send : (p : Acting) (to : Addr) (body : List ℕ) → (send_after p to body).made ≡ p.made
 made_send p to body =
     let u = used_after (entry p) p.used in
@@ -228,11 +246,11 @@ peer_made p (Connect d to) c own = record { made = λ h. refl; stays_made = λ h
 peer_made p (Accept d port) c own = record { made = λ h. refl; stays_made = λ h k. refl; only = λ h. inr own }
 peer_made p (Write d piece) c own = unmade p _ (Write d piece) _ c (made_counted p (not (is_udp p.script.kind)) (write_after (counted p) piece) refl) refl
 peer_made p (Read d count) c own = unmade p _ (Read d count) _ c
-    (made_counted p (not (is_udp p.script.kind)) (read_after (counted p) count) (made_read (counted p) (countable count) (front (counted p)))) refl
+    (made_counted p (not (is_udp p.script.kind)) (read_after (counted p) count) (made_put_off (counted p) count)) refl
 peer_made p (SendTo d port to body) c own = unmade p _ (SendTo d port to body) _ c
     (made_counted p (is_udp p.script.kind) (send_after (counted p) to body) (made_send (counted p) to body)) refl
 peer_made p (RecvFrom d port count) c own = unmade p _ (RecvFrom d port count) _ c
-    (made_counted p (is_udp p.script.kind) (read_after (counted p) most_read) (made_read (counted p) most_read (front (counted p)))) refl
+    (made_counted p (is_udp p.script.kind) (read_after (counted p) most_read) (made_put_off (counted p) most_read)) refl
 peer_made p (Shut d) c own = unmade p _ (Shut d) _ c (made_counted p true (counted p) refl) refl
 peer_made p (DropConn d) c own = record {
   made = λ h. absurd (no_both false h refl);

@@ -6,7 +6,7 @@ use Rattle.chip_sheet.specs.declared.event.ConnId.{ConnId}
 use Rattle.link_trait.specs.Calls.{Call, same}
 use Rattle.link_trait.proofs.Connections.{same_self, same_is}
 use Rattle.link_script.specs.Scripts.{Script}
-use Rattle.link_script.specs.Acting.{Acting, is_serving, is_unused, met, is_willing, begun, fed, peer_after}
+use Rattle.link_script.specs.Acting.{Acting, is_serving, is_unused, met, is_willing, begun, asked, keeps_waiting, lowered, fed, peer_after}
 use Rattle.link_script.specs.Play.{Played, server_in, change_first, met_by, meeting, is_lost, peers_by, suits, is_wanted}
 use Rattle.link_script.specs.declared.wanted.Wanted.{Wanted}
 use Rattle.link_script.proofs.Goings.{peer_goes}
@@ -43,6 +43,14 @@ suits_unused wanted c p h = unused_serves c p.conn p.script (and_left (is_unused
 begun_serves : (c d : ConnId) (tells : Bool) (p : Acting) → same c d ≡ false → is_serving d (begun c tells p) ≡ false
 begun_serves c d tells p off = ap (λ v. v && is_willing p.script) off
 
+asked_serves : (c d : ConnId) (tells : Bool) (p : Acting) → same c d ≡ false → is_serving d p ≡ false → is_serving d (asked c tells p) ≡ false
+asked_serves c d tells p off none =
+    let go : (v : Bool) → is_serving d (if v then lowered p else begun c tells p) ≡ false = elim [
+      | true ↦ none
+      | false ↦ begun_serves c d tells p off
+    ] in
+    go (keeps_waiting p)
+
 -- a change of the first that serves a connection
 
 served_mine : (c : ConnId) (f : Acting → Acting) → ((p : Acting) → is_serving c (f p) ≡ is_serving c p) → (ps : List Acting)
@@ -67,15 +75,15 @@ served_other c d f keeps off (p ∷ ps) =
     ] in
     go (is_serving c p) refl
 
--- a peer that is met
+-- a peer that is asked
 
 met_other : (c d : ConnId) (wanted : Wanted) (tells : Bool) → same c d ≡ false → (ps : List Acting)
-    → find (is_serving d) (change_first (suits wanted) (begun c tells) ps) ≡ find (is_serving d) ps
+    → find (is_serving d) (change_first (suits wanted) (asked c tells) ps) ≡ find (is_serving d) ps
 met_other c d wanted tells off [] = refl
 met_other c d wanted tells off (p ∷ ps) =
     let go : (v : Bool) → suits wanted p ≡ v
-    → find (is_serving d) (if v then begun c tells p ∷ ps else p ∷ change_first (suits wanted) (begun c tells) ps) ≡ find (is_serving d) (p ∷ ps) = elim [
-      | true ↦ (λ e. rw (begun_serves c d tells p off, suits_unused wanted d p e) refl)
+    → find (is_serving d) (if v then asked c tells p ∷ ps else p ∷ change_first (suits wanted) (asked c tells) ps) ≡ find (is_serving d) (p ∷ ps) = elim [
+      | true ↦ (λ e. let none = suits_unused wanted d p e in rw (asked_serves c d tells p off none, none) refl)
       | false ↦ (λ e. ap (λ l. cond (is_serving d p) (Some p) l) (met_other c d wanted tells off ps))
     ] in
     go (suits wanted p) refl
@@ -98,16 +106,26 @@ begin_mine : (c : ConnId) (tells : Bool) (p : Acting) (ps : List Acting) (v : Bo
 begin_mine c tells p ps true w h = inr (record { peer = p; is = rw (same_self c, w) refl })
 begin_mine c tells p ps false w h = inl (rw (same_self c, w) h)
 
+ask_mine : (c : ConnId) (tells : Bool) (p : Acting) (ps : List Acting) → is_serving c p ≡ false → find (is_serving c) ps ≡ None
+    → (find (is_serving c) (asked c tells p ∷ ps) ≡ None) ⊎ Begins c tells (find (is_serving c) (asked c tells p ∷ ps))
+ask_mine c tells p ps off h =
+    let go : (v : Bool) → (find (is_serving c) ((if v then lowered p else begun c tells p) ∷ ps) ≡ None)
+    ⊎ Begins c tells (find (is_serving c) ((if v then lowered p else begun c tells p) ∷ ps)) = elim [
+      | true ↦ inl (rw off h)
+      | false ↦ begin_mine c tells p ps (is_willing p.script) refl h
+    ] in
+    go (keeps_waiting p)
+
 met_mine : (c : ConnId) (wanted : Wanted) (tells : Bool) (ps : List Acting) → find (is_serving c) ps ≡ None
-    → (find (is_serving c) (change_first (suits wanted) (begun c tells) ps) ≡ None)
-    ⊎ Begins c tells (find (is_serving c) (change_first (suits wanted) (begun c tells) ps))
+    → (find (is_serving c) (change_first (suits wanted) (asked c tells) ps) ≡ None)
+    ⊎ Begins c tells (find (is_serving c) (change_first (suits wanted) (asked c tells) ps))
 met_mine c wanted tells [] h = inl refl
 met_mine c wanted tells (p ∷ ps) h =
     let rest = rest_none c p ps h in
     let go : (v : Bool) → suits wanted p ≡ v
-    → (find (is_serving c) (if v then begun c tells p ∷ ps else p ∷ change_first (suits wanted) (begun c tells) ps) ≡ None)
-    ⊎ Begins c tells (find (is_serving c) (if v then begun c tells p ∷ ps else p ∷ change_first (suits wanted) (begun c tells) ps)) = elim [
-      | true ↦ (λ e. begin_mine c tells p ps (is_willing p.script) refl rest.1)
+    → (find (is_serving c) (if v then asked c tells p ∷ ps else p ∷ change_first (suits wanted) (asked c tells) ps) ≡ None)
+    ⊎ Begins c tells (find (is_serving c) (if v then asked c tells p ∷ ps else p ∷ change_first (suits wanted) (asked c tells) ps)) = elim [
+      | true ↦ (λ e. ask_mine c tells p ps rest.0 rest.1)
       | false ↦ (λ e. rw rest.0 (met_mine c wanted tells ps rest.1))
     ] in
     go (suits wanted p) refl
@@ -145,7 +163,7 @@ mine_met s c (Some wanted) =
     let tells = not (is_lost s.lost c) in
     let go : (o : Option Acting) → server_in s.peers c ≡ o
     → (server_in (met_by tells s.peers c wanted o) c ≡ server_in s.peers c) ⊎ Newly s c (server_in (met_by tells s.peers c wanted o) c) = elim [
-      | None ↦ (λ e. newly_or s c e (change_first (suits wanted) (begun c tells) s.peers) (met_mine c wanted tells s.peers e))
+      | None ↦ (λ e. newly_or s c e (change_first (suits wanted) (asked c tells) s.peers) (met_mine c wanted tells s.peers e))
       | Some p ↦ (λ e. inl refl)
     ] in
     go (server_in s.peers c) refl

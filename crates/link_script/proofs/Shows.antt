@@ -1,6 +1,7 @@
 -- What the links show after a call is what the trait of links says of it.
 use Rattle.std.proofs.Common.{◌≡◌, ◌<◌, ◌==◌, ◌&&◌, ◌⊎◌, inl, inr, ℕ, zero, suc, Bool, true, false, not, refl, sym, ap, subst, ◌∙◌, List, [], ◌∷◌, ◌++◌, length, map, set, get_or, Option, Some, None, if◌then◌else◌, append-nil, nat_le}
 use Rattle.std.proofs.Common.{arith}
+use Rattle.std.specs.List.{find}
 use Rattle.std.specs.Option.{option_map_or, option_map}
 use Rattle.std.proofs.lemmas.List.{get_or-set_same, get_or-set_other}
 use Rattle.std.proofs.lemmas.Bool.{cases_eq}
@@ -11,10 +12,11 @@ use Rattle.chip_sheet.specs.LinkAnswers.{LinkAnswer, Done, DoneFrom, NotYet, Fai
 use Rattle.link_trait.specs.Calls.{Call, SetRoutes, Connect, Accept, Write, Read, SendTo, RecvFrom, Shut, DropConn, same, is_on}
 use Rattle.link_trait.specs.Shown.{Shown, Counts, Makes, Lists, IsBlank, IsFresh, Fails, Waits, Stalls, gives, addresses, gets, moves, makes, ends, added, stalled_at, stalled_after}
 use Rattle.link_trait.proofs.Connections.{same_self, same_is}
+use Rattle.link_script.specs.declared.wanted.Wanted.TheVariants.{ServerAt}
 use Rattle.link_script.specs.declared.peer.Connects.{Connects}
 use Rattle.link_script.specs.declared.peer.Connects.TheVariants as word
-use Rattle.link_script.specs.Acting.{Acting, fed, peer_answer, peer_after}
-use Rattle.link_script.specs.Play.{Played, Plays, shown, server_in, meeting, is_lost, reaches, lost_after, lost_by, later, peers_by, answer_or, unserved, answer_on, after_on, risen, has_failed, has_waited, is_there, wanted_by, stalled_by, is_outgoing, refusal, refused_by}
+use Rattle.link_script.specs.Acting.{Acting, keeps_waiting, fed, peer_answer, peer_after}
+use Rattle.link_script.specs.Play.{Played, Plays, shown, server_in, meeting, is_lost, reaches, lost_after, lost_by, later, peers_by, answer_or, unserved, answer_on, after_on, risen, has_failed, has_waited, is_there, wanted_by, stalled_by, is_outgoing, refusal, refused_by, suits}
 use Rattle.link_script.specs.Scripts.{Script}
 use Rattle.link_script.specs.Start.{start_of, first_state}
 use Rattle.link_script.proofs.Goings.{peer_goes, peer_made, no_both}
@@ -133,9 +135,11 @@ by_less lost call (Some p) d h = h
 
 refused_moves : (c : ConnId) (to : Addr) (o : Option Acting) → moves (Connect c to) (refused_by o) ≡ false
 refused_moves c to None = refl
-refused_moves c to (Some p) =
-    let go : (w : Connects) → moves (Connect c to) (refusal w) ≡ false = elim [ word.Fine ↦ refl | word.Refused ↦ refl | word.Timeout ↦ refl ] in
-    go p.script.connect
+refused_moves c to (Some p) = elim (keeps_waiting p) as (λ v. moves (Connect c to) (if v then NotYet else refusal p.script.connect) ≡ false) [
+  | true ↦ refl
+  | false ↦ (let go : (w : Connects) → moves (Connect c to) (refusal w) ≡ false = elim [ word.Fine ↦ refl | word.Refused ↦ refl | word.Timeout ↦ refl ] in
+      go p.script.connect)
+]
 
 -- a datagram that went to nobody is lost
 own_later : (o : Option ℕ) (life : ℕ) → reaches (Some (later o life)) life ≡ true
@@ -152,7 +156,7 @@ lost_own lost c h =
 moves_not : (s : Played) (call : Call) (c : ConnId) → is_on call c ≡ true → OfSocket (length s.lost) call
     → is_lost (lost_after s.lost call) c ≡ false → moves call (unserved s.peers call) ≡ false
 moves_not s (SetRoutes routes) c own h l = refl
-moves_not s (Connect d to) c own h l = refused_moves d to _
+moves_not s (Connect d to) c own h l = refused_moves d to (find (suits (ServerAt to)) s.peers)
 moves_not s (Accept d port) c own h l = refl
 moves_not s (Write d piece) c own h l = refl
 moves_not s (Read d count) c own h l = refl
@@ -165,12 +169,14 @@ moves_not s (DropConn d) c own h l = refl
 
 refused_makes : (c : ConnId) (to : Addr) (d : ConnId) (o : Option Acting) → makes (Connect c to) (refused_by o) d ≡ false
 refused_makes c to d None = refl
-refused_makes c to d (Some p) =
-    let go : (w : Connects) → makes (Connect c to) (refusal w) d ≡ false = elim [ word.Fine ↦ refl | word.Refused ↦ refl | word.Timeout ↦ refl ] in
-    go p.script.connect
+refused_makes c to d (Some p) = elim (keeps_waiting p) as (λ v. makes (Connect c to) (if v then NotYet else refusal p.script.connect) d ≡ false) [
+  | true ↦ refl
+  | false ↦ (let go : (w : Connects) → makes (Connect c to) (refusal w) d ≡ false = elim [ word.Fine ↦ refl | word.Refused ↦ refl | word.Timeout ↦ refl ] in
+      go p.script.connect)
+]
 
 makes_not : (s : Played) (call : Call) (c : ConnId) → makes call (unserved s.peers call) c ≡ false
-makes_not s (Connect d to) c = refused_makes d to c _
+makes_not s (Connect d to) c = refused_makes d to c (find (suits (ServerAt to)) s.peers)
 makes_not s (SetRoutes routes) c = refl
 makes_not s (Accept d port) c = refl
 makes_not s (Write d piece) c = refl

@@ -29,6 +29,8 @@ pub record Acting : Type 0 where
   -- how many chunks are read or passed over, and how many bytes of the next one are read
   pub next : ℕ
   pub at : ℕ
+  -- how many times it still answers NotYet before it makes its connection, begins a chunk, or ends
+  pub owes : ℕ
 
 -- Which peer serves a connection.
 
@@ -63,7 +65,7 @@ met (Some d) c = same d c
 abbrev pub is_serving : ConnId → Acting → Bool
 is_serving c p = met p.conn c && is_willing p.script
 
--- A peer that meets a connection, and begins its script.
+-- A peer that meets a connection, and begins its script. It owes all its NotYets again.
 abbrev pub begun : ConnId → Bool → Acting → Acting
 begun c tells p = record {
   script = p.script;
@@ -76,7 +78,25 @@ begun c tells p = record {
   dests = [];
   next = 0;
   at = 0;
+  owes = p.script.lag;
 }
+
+-- What it owes.
+
+abbrev pub is_owing : Acting → Bool
+is_owing p = nat_lt 0 p.owes
+
+-- One NotYet of those that it owed was answered.
+abbrev pub lowered : Acting → Acting
+lowered p = record p { owes = p.owes - 1 }
+
+-- A client or a server that owes keeps the connection that it is to meet waiting. A datagram peer makes no connection.
+abbrev pub keeps_waiting : Acting → Bool
+keeps_waiting p = not (is_udp p.script.kind) && is_owing p
+
+-- A peer that a connection is to meet, once it was asked: it answered a NotYet that it owed, or met the connection.
+abbrev pub asked : ConnId → Bool → Acting → Acting
+asked c tells p = if keeps_waiting p then lowered p else begun c tells p
 
 -- What it takes.
 
@@ -158,8 +178,13 @@ part p passed count = take count (drop (read_of p passed) (chunk_at p passed).by
 abbrev pub is_ready : Acting → ℕ → Bool
 is_ready p passed = nat_le (chunk_at p passed).after (length p.given)
 
+-- Where a chunk is read to its end, the peer owes all its NotYets again.
 abbrev pub moved_to : Acting → ℕ → ℕ → ℕ → Acting
-moved_to p chunk at most = record p { next = (if at == most then chunk + 1 else chunk); at = (if at == most then 0 else at) }
+moved_to p chunk at most = record p {
+  next = (if at == most then chunk + 1 else chunk);
+  at = (if at == most then 0 else at);
+  owes = (if at == most then p.script.lag else p.owes);
+}
 
 -- After so many bytes of that chunk were read.
 abbrev pub moved : Acting → ℕ → ℕ → Acting
@@ -168,6 +193,15 @@ moved p passed count = moved_to p (p.next + passed) (read_of p passed + count) (
 abbrev pub has_ended : Option ℕ → ℕ → Bool
 has_ended None given = false
 has_ended (Some end) given = nat_le end given
+
+-- A read begins a chunk, or is answered End.
+abbrev pub is_move : Acting → Option ℕ → Bool
+is_move p None = not (is_udp p.script.kind) && has_ended p.script.end (length p.given)
+is_move p (Some passed) = is_ready p passed && read_of p passed == 0
+
+-- That is what a peer puts off while it owes.
+abbrev pub puts_off : Acting → Bool
+puts_off p = is_owing p && is_move p (front p)
 
 -- A read gives no more bytes than its answer can count.
 abbrev pub countable : ℕ → ℕ
@@ -178,21 +212,21 @@ read_from p count None = if has_ended p.script.end (length p.given) then End els
 read_from p count (Some passed) = if is_ready p passed then DoneBytes (part p passed (countable count)) else NotYet
 
 abbrev pub read_answer : Acting → ℕ → LinkAnswer
-read_answer p count = read_from p count (front p)
+read_answer p count = if puts_off p then NotYet else read_from p count (front p)
 
 abbrev pub receive_from : Acting → Option ℕ → LinkAnswer
 receive_from p None = NotYet
 receive_from p (Some passed) = if is_ready p passed then DoneDatagram p.script.addr (part p passed most_read) else NotYet
 
 abbrev pub receive_answer : Acting → LinkAnswer
-receive_answer p = receive_from p (front p)
+receive_answer p = if puts_off p then NotYet else receive_from p (front p)
 
 abbrev pub left_by : Acting → ℕ → Option ℕ → Acting
 left_by p count None = p
 left_by p count (Some passed) = if is_ready p passed then moved p passed (length (part p passed count)) else p
 
 abbrev pub read_after : Acting → ℕ → Acting
-read_after p count = left_by p (countable count) (front p)
+read_after p count = if puts_off p then lowered p else left_by p (countable count) (front p)
 
 -- All that was read of it.
 abbrev pub fed_by : PeerKind → List Said → ℕ → ℕ → List ℕ

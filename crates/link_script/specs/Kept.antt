@@ -15,6 +15,7 @@ acting_of a = record {
   dests = a.dests.items;
   next = a.next;
   at = a.at;
+  owes = a.owes;
 }
 
 -- All room is reserved, and the place of reading stands within the script.

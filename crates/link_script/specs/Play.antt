@@ -13,7 +13,7 @@ use Rattle.link_script.specs.declared.peer.Connects.TheVariants as word
 use Rattle.link_script.specs.declared.wanted.Wanted.{Wanted}
 use Rattle.link_script.specs.declared.wanted.Wanted.TheVariants.{ServerAt, ClientOf, UdpOf}
 use Rattle.link_script.specs.Scripts.{Script}
-use Rattle.link_script.specs.Acting.{Acting, is_udp, is_server, is_client, is_unused, is_serving, begun, fed, peer_answer, peer_after}
+use Rattle.link_script.specs.Acting.{Acting, is_udp, is_server, is_client, is_unused, is_serving, asked, keeps_waiting, fed, peer_answer, peer_after}
 
 pub record Played : Type 0 where
   pub peers : List Acting
@@ -65,24 +65,25 @@ reaches (Some latest) life = nat_le life latest
 abbrev pub is_lost : List (Option ℕ) → ConnId → Bool
 is_lost lost c = reaches (get_or lost c.sn None) c.life
 
--- A connection that no peer serves meets one, and one that a peer serves meets no other. The peer tells all bytes if the connection
--- was quiet until then.
+-- A connection that no peer serves asks the first that suits, which meets it or keeps it waiting; one that a peer serves asks no
+-- other. The peer that it meets tells all bytes if the connection was quiet until then.
 abbrev pub met_by : Bool → List Acting → ConnId → Wanted → Option Acting → List Acting
-met_by tells peers c wanted None = change_first (suits wanted) (begun c tells) peers
+met_by tells peers c wanted None = change_first (suits wanted) (asked c tells) peers
 met_by tells peers c wanted (Some p) = peers
 
 abbrev pub meeting : Played → ConnId → Option Wanted → List Acting
 meeting s c None = s.peers
 meeting s c (Some wanted) = met_by (not (is_lost s.lost c)) s.peers c wanted (server_in s.peers c)
 
--- What a call on a connection that no peer serves is answered. A connect met a server that refused or never answers, or none.
+-- What a call on a connection that no peer serves is answered. A connect asked a server that still owes NotYets, that refused or
+-- that never answers, or there was none.
 abbrev pub refusal : Connects → LinkAnswer
 refusal word.Refused = Refused
 refusal other = TimedOut
 
 abbrev pub refused_by : Option Acting → LinkAnswer
 refused_by None = TimedOut
-refused_by (Some p) = refusal p.script.connect
+refused_by (Some p) = if keeps_waiting p then NotYet else refusal p.script.connect
 
 abbrev pub unserved : List Acting → Call → LinkAnswer
 unserved peers (Connect c to) = refused_by (find (suits (ServerAt to)) peers)

@@ -9,7 +9,7 @@ pub record Said : Type 0 where
   pub after : ℕ
   pub bytes : List ℕ
 
--- The script of a peer: what it is, where, and what it takes, says and fails.
+-- The script of a peer: what it is, where, what it takes, says and fails, and how often it answers NotYet before each move.
 pub record Script : Type 0 where
   pub kind : PeerKind
   pub addr : Addr
@@ -20,3 +20,4 @@ pub record Script : Type 0 where
   pub say : List Said
   pub end : Option ℕ
   pub fail : ℕ
+  pub lag : ℕ

@@ -16,6 +16,7 @@ start_of script = record {
   dests = [];
   next = 0;
   at = 0;
+  owes = script.lag;
 }
 
 -- All peers before any call.

@@ -4,7 +4,7 @@ ghost use Rattle.std.specs.List.{position};
 ghost use Rattle.chip_sheet.specs.LinkAnswers.{Done};
 ghost use Rattle.chip_sheet.specs.Windows.{most_read};
 ghost use Rattle.link_trait.specs.Calls.{writing, reading, sending, receiving, shutting, WriteFits, ReadFits, ReceiveFits};
-ghost use Rattle.link_script.specs.Acting.{begun, is_serving, is_udp, is_void, front, part, moved, moved_to, countable, counted, fails, counted_answer, counted_after, write_answer, write_after, send_answer, send_after, read_answer, read_after, receive_answer, is_ready, takes_of, takes_whole, entry, used_after, has_ended, fed, faults_of, is_willing, room_left, within, allows, read_of, chunk_at};
+ghost use Rattle.link_script.specs.Acting.{begun, asked, keeps_waiting, is_owing, lowered, is_move, puts_off, read_from, receive_from, left_by, is_serving, is_udp, is_void, front, part, moved, moved_to, countable, counted, fails, counted_answer, counted_after, write_answer, write_after, send_answer, send_after, read_answer, read_after, receive_answer, is_ready, takes_of, takes_whole, entry, used_after, has_ended, fed, faults_of, is_willing, room_left, within, allows, read_of, chunk_at};
 ghost use Rattle.link_script.specs.Play.{suits, is_wanted, same_address};
 ghost use Rattle.link_script.specs.Start.{start_of};
 
@@ -46,6 +46,8 @@ pub struct Actor {
     next: usize,
     /// How many bytes of the next chunk are read.
     at: usize,
+    /// How many times it still answers NotYet before its next move.
+    owes: u16,
     /// How many bytes were read in all.
     heard: u64,
 }
@@ -69,6 +71,8 @@ struct Place {
     next: usize,
     /// How many bytes of the next chunk are read.
     at: usize,
+    /// How many times it still answers NotYet before its next move.
+    owes: u16,
     /// How many bytes were read in all.
     heard: u64,
 }
@@ -171,6 +175,7 @@ impl Actor {
         ensures { IfOk result (λ actor. actor ≡ start_of peer) }
     {
         let room = peer.room as usize;
+        let owes = peer.lag;
         Ok(Actor {
             peer,
             conn: None,
@@ -182,14 +187,23 @@ impl Actor {
             dests: Vec::with_capacity(alloc, MOST_DATAGRAMS)?,
             next: 0,
             at: 0,
+            owes,
             heard: 0,
         })
     }
 
+    /// How many NotYets it owes before each move.
+    fn lag(&self) -> u16
+        ensures { result ≡ self.now.script.lag }
+    {
+        self.peer.lag
+    }
+
     /// Meets a connection, and begins its script. `tells` says whether the connection's bytes are told.
-    pub fn begin(&mut self, c: ConnId, tells: bool)
+    fn begin(&mut self, c: ConnId, tells: bool)
         ensures { self.new ≡ begun c tells self.old }
     {
+        let lag = self.lag();
         self.conn = Some(c);
         self.tells = tells;
         self.made = false;
@@ -199,7 +213,34 @@ impl Actor {
         self.dests.clear();
         self.next = 0;
         self.at = 0;
+        self.owes = lag;
         self.heard = 0;
+    }
+
+    /// Whether it still answers NotYet to the connection that it is to meet.
+    pub fn keeps_waiting(&self) -> bool
+        ensures { result ≡ keeps_waiting self.now }
+    {
+        !self.is_udp() && self.owes > 0
+    }
+
+    /// Answers a NotYet that it owes.
+    fn lower(&mut self)
+        requires { is_owing self.old ≡ true }
+        ensures { self.new ≡ lowered self.old }
+    {
+        self.owes -= 1;
+    }
+
+    /// Meets a connection, or keeps it waiting. `tells` says whether the connection's bytes are told.
+    pub fn ask(&mut self, c: ConnId, tells: bool)
+        ensures { self.new ≡ asked c tells self.old }
+    {
+        if self.keeps_waiting() {
+            self.lower();
+        } else {
+            self.begin(c, tells);
+        }
     }
 
     /// Its address.
@@ -487,21 +528,31 @@ impl Actor {
         copy_first(&chunk.bytes[at..], most, buf)
     }
 
+    /// What it owes once so many bytes of so many are read: all again at the chunk's end.
+    fn owed_after(&self, at: usize, most: usize) -> u16
+        ensures { result ≡ (if at == most then self.now.script.lag else self.now.owes) }
+    {
+        if at == most { self.peer.lag } else { self.owes }
+    }
+
     /// Where reading stands, once so many bytes of that chunk are read.
     fn place(&self, passed: usize, count: usize) -> Place
         requires front { front self.now ≡ Some passed }
         requires there { count ≡ length (part self.now passed count) }
         ensures next { result.next ≡ (moved self.now passed count).next }
         ensures at { result.at ≡ (moved self.now passed count).at }
+        ensures owes { result.owes ≡ (moved self.now passed count).owes }
         ensures heard { result.heard ≡ min (length (fed (moved self.now passed count))) (2 ^ 64 - 1) }
     {
         let chunk = self.chunk_number(passed);
         let most = self.chunk_at(passed).bytes.len();
-        let at = self.read_of(passed);
-        let (next, at) = place_after(chunk, at + count, most);
+        let read = self.read_of(passed) + count;
+        let owes = self.owed_after(read, most);
+        let (next, at) = place_after(chunk, read, most);
         Place {
             next,
             at,
+            owes,
             heard: self.heard.saturating_add(count as u64),
         }
     }
@@ -515,6 +566,7 @@ impl Actor {
         let place = self.place(passed, count);
         self.next = place.next;
         self.at = place.at;
+        self.owes = place.owes;
         self.heard = place.heard;
     }
 
@@ -532,12 +584,37 @@ impl Actor {
         count
     }
 
-    /// Reads bytes into a buffer that is not empty.
+    /// Whether the next read begins that chunk.
+    fn begins(&self, passed: usize) -> bool
+        requires { front self.now ≡ Some passed }
+        ensures { result ≡ is_move self.now (Some passed) }
+    {
+        self.is_ready(passed) && self.read_of(passed) == 0
+    }
+
+    /// Whether the next read begins a chunk, or is answered End.
+    fn is_move(&self) -> bool
+        ensures { result ≡ is_move self.now (front self.now) }
+    {
+        match self.front() {
+            Some(passed) => self.begins(passed),
+            None => !self.is_udp() && self.has_ended(),
+        }
+    }
+
+    /// Whether it puts off what the next read would begin.
+    fn puts_off(&self) -> bool
+        ensures { result ≡ puts_off self.now }
+    {
+        self.owes > 0 && self.is_move()
+    }
+
+    /// Reads bytes into a buffer that is not empty, where it puts nothing off.
     fn read_now(&mut self, buf: &mut [u8]) -> Reading
         requires { 0 < length buf.old }
-        ensures answer { reading result buf.new ≡ read_answer self.old (length buf.old) }
+        ensures answer { reading result buf.new ≡ read_from self.old (length buf.old) (front self.old) }
         ensures fits { is_udp self.old.script.kind ≡ false → ReadFits result buf.new }
-        ensures left { self.new ≡ read_after self.old (length buf.old) }
+        ensures left { self.new ≡ left_by self.old (countable (length buf.old)) (front self.old) }
     {
         let Some(passed) = self.front() else {
             return if self.has_ended() {
@@ -554,6 +631,20 @@ impl Actor {
         Reading::Done(count as u32)
     }
 
+    /// Reads bytes into a buffer that is not empty, or answers a NotYet that it owes.
+    fn read_or_wait(&mut self, buf: &mut [u8]) -> Reading
+        requires { 0 < length buf.old }
+        ensures answer { reading result buf.new ≡ read_answer self.old (length buf.old) }
+        ensures fits { is_udp self.old.script.kind ≡ false → ReadFits result buf.new }
+        ensures left { self.new ≡ read_after self.old (length buf.old) }
+    {
+        if self.puts_off() {
+            self.lower();
+            return Reading::NotYet;
+        }
+        self.read_now(buf)
+    }
+
     /// Reads bytes into a buffer that is not empty.
     pub fn read(&mut self, buf: &mut [u8]) -> Reading
         requires { 0 < length buf.old }
@@ -567,15 +658,15 @@ impl Actor {
         if self.count_call() {
             return Reading::Failed;
         }
-        self.read_now(buf)
+        self.read_or_wait(buf)
     }
 
-    /// Reads a datagram into a buffer of at least [`MOST_BYTES`].
+    /// Reads a datagram into a buffer of at least [`MOST_BYTES`], where it puts none off.
     fn receive_now(&mut self, buf: &mut [u8]) -> Receiving
         requires { most_read ≤ length buf.old }
-        ensures answer { receiving result buf.new ≡ receive_answer self.old }
+        ensures answer { receiving result buf.new ≡ receive_from self.old (front self.old) }
         ensures fits { ReceiveFits result }
-        ensures left { self.new ≡ read_after self.old most_read }
+        ensures left { self.new ≡ left_by self.old most_read (front self.old) }
     {
         let Some(passed) = self.front() else {
             return Receiving::NotYet;
@@ -585,6 +676,20 @@ impl Actor {
         }
         let count = self.hear(passed, MOST_BYTES, buf);
         Receiving::Done(count as u32, self.peer.addr)
+    }
+
+    /// Reads a datagram into a buffer of at least [`MOST_BYTES`], or answers a NotYet that it owes.
+    fn receive_or_wait(&mut self, buf: &mut [u8]) -> Receiving
+        requires { most_read ≤ length buf.old }
+        ensures answer { receiving result buf.new ≡ receive_answer self.old }
+        ensures fits { ReceiveFits result }
+        ensures left { self.new ≡ read_after self.old most_read }
+    {
+        if self.puts_off() {
+            self.lower();
+            return Receiving::NotYet;
+        }
+        self.receive_now(buf)
     }
 
     /// Reads a datagram into a buffer of at least [`MOST_BYTES`].
@@ -600,6 +705,6 @@ impl Actor {
         if self.count_call() {
             return Receiving::Failed;
         }
-        self.receive_now(buf)
+        self.receive_or_wait(buf)
     }
 }

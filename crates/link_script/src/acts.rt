@@ -5,7 +5,7 @@ ghost use Rattle.chip_sheet.specs.LinkAnswers.{Done, NotYet};
 ghost use Rattle.link_script.specs.declared.wanted.Wanted.TheVariants.{ServerAt};
 ghost use Rattle.chip_sheet.specs.Windows.{most_read};
 ghost use Rattle.link_trait.specs.Calls.{Call, Connect, Accept, Write, Read, SendTo, RecvFrom, Shut, DropConn, writing, linking, accepting, reading, sending, receiving, shutting, WriteFits, ReadFits, ReceiveFits};
-ghost use Rattle.link_script.specs.Acting.{is_serving, begun};
+ghost use Rattle.link_script.specs.Acting.{is_serving, asked};
 ghost use Rattle.link_script.specs.Play.{suits, server_in, peers_by, answer_or, change_first, met_by, refused_by, refusal};
 
 use crate::actor::Actor;
@@ -29,41 +29,52 @@ fn suiting(actors: &[Actor], wanted: Wanted) -> Option<usize>
     actors.iter().position(|actor| actor.suits(wanted))
 }
 
-/// Lets a connection meet the first peer that suits.
+/// Lets a connection ask the first peer that suits.
 #[tactic(auto, using(crate::proofs::Changes::change_there, crate::proofs::Changes::stays_none))]
-fn meet(actors: &mut [Actor], c: ConnId, wanted: Wanted, tells: bool)
-    ensures { actors.new ≡ change_first (suits wanted) (begun c tells) actors.old }
+fn ask(actors: &mut [Actor], c: ConnId, wanted: Wanted, tells: bool)
+    ensures { actors.new ≡ change_first (suits wanted) (asked c tells) actors.old }
 {
     match suiting(actors, wanted) {
-        Some(i) => actors[i].begin(c, tells),
+        Some(i) => actors[i].ask(c, tells),
         None => {}
     }
 }
 
-/// Lets a connection meet the first peer that suits, where none serves it.
+/// Lets a connection ask the first peer that suits, where none serves it.
 #[tactic(auto, using(crate::proofs::Changes::met_there, crate::proofs::Changes::met_none))]
 pub fn take(actors: &mut [Actor], c: ConnId, wanted: Wanted, tells: bool)
     ensures { actors.new ≡ met_by tells actors.old c wanted (server_in actors.old c) }
 {
     match serving(actors, c) {
         Some(_) => {}
-        None => meet(actors, c, wanted, tells),
+        None => ask(actors, c, wanted, tells),
     }
 }
 
-/// What the server that a connection is to meet says to it, where it does not take it; TimedOut where there is none.
+/// What the server that a connection asks says to it, where it does not take it; TimedOut where there is none.
 #[tactic(auto, using(crate::proofs::Changes::refused_there, crate::proofs::Changes::refused_none))]
 pub fn refusal(actors: &[Actor], to: Addr) -> Linking
     ensures { linking result ≡ refused_by (find (suits (ServerAt to)) actors.now) }
 {
     match suiting(actors, Wanted::ServerAt(to)) {
-        Some(i) => refusal_of(actors[i].word()),
+        Some(i) => refusal_of(&actors[i]),
         None => Linking::TimedOut,
     }
 }
 
+/// What a server says to a connection that it does not take: NotYet while it owes that, then its word.
+fn refusal_of(actor: &Actor) -> Linking
+    ensures { linking result ≡ refused_by (Some actor.now) }
+{
+    if actor.keeps_waiting() {
+        Linking::NotYet
+    } else {
+        worded(actor.word())
+    }
+}
+
 /// What a server's word says to a connection that it does not take.
-fn refusal_of(word: Connects) -> Linking
+fn worded(word: Connects) -> Linking
     ensures { linking result ≡ refusal word }
 {
     match word {

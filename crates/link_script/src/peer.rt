@@ -63,6 +63,8 @@ pub struct Peer {
     pub end: Option<u32>,
     /// Which of its calls fails, from 1; 0 for none.
     pub fail: u32,
+    /// How many times it answers NotYet before it makes its connection, before each chunk, and before it ends.
+    pub lag: u16,
 }
 
 impl Model for Peer {
@@ -70,5 +72,5 @@ impl Model for Peer {
 
     ghost Value = { Script };
 
-    ghost view = { λ peer. record { kind = peer.kind; addr = peer.addr; chip = peer.chip; connect = peer.connect; takes = peer.takes.items; room = peer.room; say = peer.say.items; end = peer.end; fail = peer.fail } };
+    ghost view = { λ peer. record { kind = peer.kind; addr = peer.addr; chip = peer.chip; connect = peer.connect; takes = peer.takes.items; room = peer.room; say = peer.say.items; end = peer.end; fail = peer.fail; lag = peer.lag } };
 }

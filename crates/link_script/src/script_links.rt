@@ -4,7 +4,7 @@ ghost use Rattle.std.specs.List.{position};
 ghost use Rattle.chip_sheet.specs.LinkAnswers.{LinkAnswer, Done};
 ghost use Rattle.chip_sheet.specs.Windows.{most_read};
 ghost use Rattle.link_trait.specs.Calls.{Call, Connect, Accept, Write, Read, SendTo, RecvFrom, Shut, DropConn, writing, linking, accepting, reading, sending, receiving, shutting, WriteFits, ReadFits, ReceiveFits};
-ghost use Rattle.link_script.specs.Acting.{is_serving, begun};
+ghost use Rattle.link_script.specs.Acting.{is_serving};
 ghost use Rattle.link_script.specs.Start.{start_of, first_state};
 ghost use Rattle.link_script.specs.Ends.{EndsOf};
 ghost use Rattle.link_script.specs.Links.{played_of, IsEight};
@@ -128,7 +128,7 @@ impl ScriptLinks {
         }
     }
 
-    /// Lets a connection meet a peer, where none serves it.
+    /// Lets a connection ask a peer, where none serves it.
     fn take(&mut self, c: ConnId, wanted: Wanted)
         requires { c.sn < 8 }
         ensures { played_of self.new ≡ record (played_of self.old) { peers = meeting (played_of self.old) c (Some wanted) } }

@@ -46,6 +46,7 @@ fn server(rt: &impl Abort, alloc: Global, takes: &[u32], says: &[u8]) -> Peer {
         say,
         end: None,
         fail: 0,
+        lag: 0,
     }
 }
 
