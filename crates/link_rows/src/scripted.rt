@@ -25,6 +25,10 @@ const FIRST: ConnId = ConnId { sn: 0, life: 1 };
 
 const SECOND: ConnId = ConnId { sn: 1, life: 1 };
 
+const THIRD: ConnId = ConnId { sn: 2, life: 1 };
+
+const FOURTH: ConnId = ConnId { sn: 3, life: 1 };
+
 /// A call on a connection, with its answer, and the bytes that it puts into a buffer of so many bytes.
 #[derive(Clone, Copy)]
 enum Step {
@@ -45,7 +49,7 @@ struct Case {
     steps: &'static [Step],
 }
 
-const CASES: [Case; 5] = [
+const CASES: [Case; 8] = [
     Case {
         takes: &[2, 0, 3],
         room: 65536,
@@ -121,6 +125,57 @@ const CASES: [Case; 5] = [
             Step::Write(b"a", Writing::NotYet),
         ],
     },
+    Case {
+        takes: &[],
+        room: 65536,
+        say: &[(0, b"abc"), (2, b"yo")],
+        end: Some(2),
+        fail: 0,
+        lag: 2,
+        steps: &[
+            Step::Read(2, Reading::NotYet, b""),
+            Step::Read(2, Reading::NotYet, b""),
+            Step::Read(2, Reading::Done(2), b"ab"),
+            Step::Read(2, Reading::Done(1), b"c"),
+            Step::Read(4, Reading::NotYet, b""),
+            Step::Read(4, Reading::NotYet, b""),
+            Step::Read(4, Reading::NotYet, b""),
+            Step::Write(b"ab", Writing::Done(2)),
+            Step::Read(4, Reading::NotYet, b""),
+            Step::Read(4, Reading::NotYet, b""),
+            Step::Read(4, Reading::Done(2), b"yo"),
+            Step::Read(4, Reading::NotYet, b""),
+            Step::Read(4, Reading::NotYet, b""),
+            Step::Read(4, Reading::End, b""),
+            Step::Read(4, Reading::End, b""),
+        ],
+    },
+    Case {
+        takes: &[],
+        room: 65536,
+        say: &[(0, b"hi")],
+        end: None,
+        fail: 2,
+        lag: 1,
+        steps: &[
+            Step::Read(4, Reading::NotYet, b""),
+            Step::Read(4, Reading::Failed, b""),
+            Step::Read(4, Reading::Done(2), b"hi"),
+        ],
+    },
+    Case {
+        takes: &[],
+        room: 65536,
+        say: &[(0, b"hi")],
+        end: None,
+        fail: 1,
+        lag: 1,
+        steps: &[
+            Step::Read(4, Reading::Failed, b""),
+            Step::Read(4, Reading::NotYet, b""),
+            Step::Read(4, Reading::Done(2), b"hi"),
+        ],
+    },
 ];
 
 /// A peer that says these chunks.
@@ -191,11 +246,24 @@ struct Session {
     ghost made: { (shown (played_of links)).made c ≡ true },
 }
 
-/// A connection to the server at an address.
-fn open(links: ScriptLinks, c: ConnId, to: Addr) -> Option<Session>
+/// Whether so many calls to connect are answered NotYet.
+fn is_kept_waiting(links: &mut ScriptLinks, c: ConnId, to: Addr, times: u16) -> bool {
+    for _ in 0..times {
+        if connect(links, c, to) != Some(Linking::NotYet) {
+            return false;
+        }
+    }
+    true
+}
+
+/// A connection to the server at an address, which is made after so many calls that were answered NotYet.
+fn open(links: ScriptLinks, c: ConnId, to: Addr, lag: u16) -> Option<Session>
     requires { c.sn < 8 }
 {
     let mut links = links;
+    if !is_kept_waiting(&mut links, c, to, lag) {
+        return None;
+    }
     if is_made(&mut links, c, to) {
         Some(Session { links, c })
     } else {
@@ -252,7 +320,7 @@ fn servers_act_by_their_scripts(rt: HostRuntime) -> Result<(), Fail> {
         let mut peers = Vec::new(rt.alloc());
         peers.push(peer_of(rt.alloc(), PeerKind::Server, case)?)?;
         let links = ScriptLinks::new(rt.alloc(), peers)?;
-        let mut session = open(links, FIRST, HERE).ok_or("refused")?;
+        let mut session = open(links, FIRST, HERE, case.lag).ok_or("refused")?;
         play(&rt, &mut session, case.steps);
     }
     Ok(())
@@ -419,5 +487,50 @@ fn datagrams_come_and_go(rt: HostRuntime) -> Result<(), Fail> {
     assert_eq!(rt; peer.given, b"abcd".as_slice());
     assert_eq!(rt; peer.fed, 2);
     assert_eq!(rt; peer.faults, 1);
+    Ok(())
+}
+
+/// Peers that owe NotYets: a client and another behind it that owes none, a server that refuses, and a datagram peer.
+fn owing_peers(alloc: Global) -> Result<Vec<Peer>, AllocError> {
+    let mut client = peer_of(alloc, PeerKind::Client, &CASES[1])?;
+    client.lag = 2;
+    let mut other = peer_of(alloc, PeerKind::Client, &CASES[1])?;
+    other.addr = ELSEWHERE;
+    let mut refusing = peer_of(alloc, PeerKind::Server, &CASES[1])?;
+    refusing.connect = Connects::Refused;
+    refusing.lag = 1;
+    let mut datagrams = datagram_peer(alloc)?;
+    datagrams.lag = 1;
+    let mut peers = Vec::new(alloc);
+    peers.push(client)?;
+    peers.push(other)?;
+    peers.push(refusing)?;
+    peers.push(datagrams)?;
+    Ok(peers)
+}
+
+const WAITS: [Ask; 15] = [
+    Ask::Accept(FIRST, 8, Accepting::NotYet),
+    Ask::Accept(FIRST, 7, Accepting::NotYet),
+    Ask::Accept(SECOND, 7, Accepting::NotYet),
+    Ask::Accept(SECOND, 7, Accepting::Done(HERE)),
+    Ask::Accept(FIRST, 7, Accepting::Done(ELSEWHERE)),
+    Ask::Connect(THIRD, HERE, Linking::NotYet),
+    Ask::Connect(THIRD, HERE, Linking::Refused),
+    Ask::Connect(THIRD, HERE, Linking::TimedOut),
+    Ask::SendTo(FOURTH, 7, HERE, b"ab", b"c", Sending::Done),
+    Ask::RecvFrom(FOURTH, 7, Receiving::NotYet),
+    Ask::RecvFrom(FOURTH, 7, Receiving::Done(2, HERE)),
+    Ask::RecvFrom(FOURTH, 7, Receiving::NotYet),
+    Ask::RecvFrom(FOURTH, 7, Receiving::Done(0, HERE)),
+    Ask::RecvFrom(FOURTH, 7, Receiving::NotYet),
+    Ask::RecvFrom(FOURTH, 7, Receiving::Failed),
+];
+
+#[test]
+fn peers_that_owe_keep_calls_waiting(rt: HostRuntime) -> Result<(), Fail> {
+    let mut links = ScriptLinks::new(rt.alloc(), owing_peers(rt.alloc())?)?;
+    let mut buf = vec![in rt.alloc(); 0u8; 1472]?;
+    assert_eq!(rt; answered(&mut links, &WAITS, &mut buf), 15);
     Ok(())
 }
