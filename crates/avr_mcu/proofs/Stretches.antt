@@ -1,5 +1,5 @@
 -- Plain instructions in a row, and what they are as steps of the microcontroller.
-use Rattle.std.proofs.Common.{◌≡◌, ℕ, zero, suc, inl, inr, ◌⊎◌, ◌+◌, ◌-◌, ◌%◌, ◌<◌, ◌≤◌, ◌==◌, ◌&&◌, Bool, true, false, not, List, [], ◌∷◌, ◌++◌, length, take, Option, Some, None, Result, Ok, Err, if◌then◌else◌, nat_le, slice_index, slice_set, refl, ap, sym, subst, ◌∙◌, add-one, add-zero, arith}
+use Rattle.std.proofs.Common.{◌≡◌, ℕ, zero, suc, inl, inr, ◌⊎◌, ◌+◌, ◌%◌, ◌<◌, ◌≤◌, ◌==◌, ◌&&◌, ◌||◌, Bool, true, false, not, List, [], ◌∷◌, ◌++◌, length, take, Option, Some, None, Ok, if◌then◌else◌, nat_le, slice_index, slice_set, refl, ap, sym, subst, ◌∙◌, add-one, add-zero, arith}
 use Rattle.std.proofs.lemmas.Bool.{cond-true, cond-false, and_parts}
 use Rattle.std.proofs.lemmas.Bool.Decides.{nat_tests}
 use Rattle.std.proofs.lemmas.List.{take_more_set}
@@ -16,19 +16,17 @@ use Rattle.avr_core.specs.Stack.{is_sram}
 use Rattle.avr_core.specs.Steps.{Asked, Stepped, ran}
 use Rattle.avr_core.specs.Trees.{All}
 use Rattle.avr_core.specs.declared.cpu.Core.{Core}
-use Rattle.avr_core.specs.declared.went.Went.TheVariants as core_wents
 use Rattle.avr_core.proofs.Uses.{meaning-settles}
 use Rattle.avr_sheet.specs.BitNames.{I}
 use Rattle.avr_sheet.specs.Bits.{is_set}
-use Rattle.avr_space.specs.Devices.{Handled, handled, device, with_byte, read_at, write_row, pending, passed}
+use Rattle.avr_space.specs.Devices.{handled, with_byte, read_at, write_row, pending, passed}
 use Rattle.avr_space.specs.Quiet.{lapsed, IsQuietUntil, PrintsNoneUntil}
-use Rattle.avr_space.specs.Peer.{OfBus}
 use Rattle.avr_space.specs.Through.{followed, through}
 use Rattle.avr_space.specs.declared.devices.Devices.{Devices}
 use Rattle.avr_space.proofs.Quiet.{lapsed-memory, lapsed-cycles, lapsed-more, lapsed-pending, lapsed-printed}
 use Rattle.avr_timer.specs.Laws.{IsHeld}
 use Rattle.avr_mcu.specs.State.{McuState, noted, printed}
-use Rattle.avr_mcu.specs.Step.{Gone, gone, passing, looking, counting, finished, instruction, owes, request, step_by, stepped}
+use Rattle.avr_mcu.specs.Step.{gone, passing, looking, counting, finished, instruction, owes, raises, request, step_by, stepped}
 use Rattle.avr_mcu.specs.Stretch.{Course, begun, IsNext, RunsPlain, IsMove, GoesOn, noted_all}
 use Rattle.avr_mcu.specs.declared.went.McuWent.{McuWent}
 use Rattle.avr_mcu.specs.declared.went.McuWent.TheVariants.{Ran, Asleep}
@@ -39,17 +37,18 @@ pub one-more : (flash : List ℕ) (most calm n : ℕ) (before now : Course) (nex
 one-more flash most calm n before now next runs is =
     subst (λ k. RunsPlain flash most calm k before next) (sym (add-one n)) (now, runs, is)
 
-pub is-next : (flash : List ℕ) (most calm cycles spent n at : ℕ) (core after : Core) (memory left notes : List ℕ)
+pub is-next : (flash : List ℕ) (most calm cycles spent was n at : ℕ) (core after : Core) (memory left notes : List ℕ)
     → spent < most → (spent < calm) ⊎ (is_set core.sreg I ≡ false) → n < length notes → at ≡ core.pc
     → over_memory (meaning flash core) memory ≡ Some (served (ran cycles after) left) → is_owing (said_at flash (in_flash core.pc)) ≡ false
-    → IsNext flash most calm (record { core = core; memory = memory; addresses = take n notes; spent = spent })
-    (record { core = after; memory = left; addresses = take (n + 1) (slice_set notes n at); spent = spent + cycles })
-is-next flash most calm cycles spent n at core after memory left notes early quiet small ats comes plain = record {
+    → IsNext flash most calm (record { core = core; memory = memory; was = was; addresses = take n notes; spent = spent })
+    (record { core = after; memory = left; was = core.sreg; addresses = take (n + 1) (slice_set notes n at); spent = spent + cycles })
+is-next flash most calm cycles spent was n at core after memory left notes early quiet small ats comes plain = record {
   cycles = cycles;
   early = early;
   calm_is = quiet;
   comes = comes;
   plain = plain;
+  was_is = refl;
   adds = refl;
   notes = take_more_set notes n at small ∙ ap (λ a. take n notes ++ a ∷ []) ats;
 }
@@ -125,19 +124,19 @@ plain_state s c core memory = record s {
   devices = passed c (record s.devices { memory = memory });
   trail = noted s.trail s.core.pc;
   counted = s.counted + 1;
-  owed = false;
+  owed = raises s.core.sreg core.sreg;
 }
 
 plain-stepped : (s : McuState) (c : ℕ) (core : Core) (memory : List ℕ) → request s ≡ None → s.asleep ≡ false → s.counted < 63
-    → over_memory (meaning s.flash s.core) s.devices.memory ≡ Some (served (ran c core) memory) → owes s.flash s.core ≡ false
+    → over_memory (meaning s.flash s.core) s.devices.memory ≡ Some (served (ran c core) memory) → owes s.flash s.core core ≡ raises s.core.sreg core.sreg
     → stepped s ≡ Give (gone Ran (plain_state s c core memory))
 unfolding stepped instruction plain_state
 plain-stepped s c core memory none awake few comes plain =
     let ds : Devices = record s.devices { memory = memory } in
-    let next : McuState = record s { core = core; devices = ds; trail = noted s.trail s.core.pc; owed = false } in
+    let next : McuState = record s { core = core; devices = ds; trail = noted s.trail s.core.pc; owed = raises s.core.sreg core.sreg } in
     ap (λ r. step_by r s) none
     ∙ (cond-false s.asleep _ _ awake
-    ∙ (ap (λ t. followed t (λ h. finished (owes s.flash s.core) h.answer.went (record s { core = h.answer.core; devices = h.devices; trail = noted s.trail s.core.pc })))
+    ∙ (ap (λ t. followed t (λ h. finished (owes s.flash s.core h.answer.core) h.answer.went (record s { core = h.answer.core; devices = h.devices; trail = noted s.trail s.core.pc })))
     (memory-through (meaning s.flash s.core) s.devices (served (ran c core) memory) comes)
     ∙ (ap (λ o. counting Ran c (record next { owed = o })) plain
     ∙ counting-few Ran c next few)))
@@ -147,9 +146,9 @@ unfolding stepped
 asleep-stepped s none asleep few =
     ap (λ r. step_by r s) none ∙ (cond-true s.asleep _ _ asleep ∙ counting-few Asleep 1 s few)
 
-owes-is : (flash : List ℕ) (core : Core) → is_owing (said_at flash (in_flash core.pc)) ≡ false → owes flash core ≡ false
+owes-is : (flash : List ℕ) (core after : Core) → is_owing (said_at flash (in_flash core.pc)) ≡ false → owes flash core after ≡ raises core.sreg after.sreg
 unfolding owes
-owes-is flash core is = is
+owes-is flash core after is = ap (λ b. b || raises core.sreg after.sreg) is
 
 -- No interrupt comes first.
 request-none : (s : McuState) → (pending s.devices ≡ None) ⊎ (is_set s.core.sreg I ≡ false) → request s ≡ None
@@ -172,9 +171,9 @@ pub record IsAhead (s : McuState) (limit most calm : ℕ) : Type 0 where
   pub still : (n : ℕ) → n < most → printed (record s { devices = lapsed n s.devices }) ≡ printed s
   pub quiet : (n : ℕ) → n < calm → pending (lapsed n s.devices) ≡ None
 
-owed_after : ℕ → Bool → Bool
-owed_after zero owed = owed
-owed_after (suc k) owed = false
+owed_after : ℕ → Bool → Bool → Bool
+owed_after zero before last = before
+owed_after (suc k) before last = last
 
 -- The microcontroller after plain instructions.
 rushed : McuState → ℕ → Course → McuState
@@ -183,15 +182,16 @@ rushed s k now = record s {
   devices = lapsed now.spent (record s.devices { memory = now.memory });
   trail = noted_all s.trail now.addresses;
   counted = s.counted + k;
-  owed = owed_after k s.owed;
+  owed = owed_after k s.owed (raises now.was now.core.sreg);
 }
 
-same-state : (s : McuState) (core : Core) (d e : Devices) (t u : List ℕ) (m n : ℕ) → d ≡ e → t ≡ u → m ≡ n
-    → record s { core = core; devices = d; trail = t; counted = m; owed = false } ≡ record s { core = core; devices = e; trail = u; counted = n; owed = false }
-same-state s core d e t u m n ds ts ns =
-    ap (λ x. record s { core = core; devices = x; trail = t; counted = m; owed = false }) ds
-    ∙ (ap (λ x. record s { core = core; devices = e; trail = x; counted = m; owed = false }) ts
-    ∙ ap (λ x. record s { core = core; devices = e; trail = u; counted = x; owed = false }) ns)
+same-state : (s : McuState) (core : Core) (d e : Devices) (t u : List ℕ) (m n : ℕ) (o p : Bool) → d ≡ e → t ≡ u → m ≡ n → o ≡ p
+    → record s { core = core; devices = d; trail = t; counted = m; owed = o } ≡ record s { core = core; devices = e; trail = u; counted = n; owed = p }
+same-state s core d e t u m n o p ds ts ns os =
+    ap (λ x. record s { core = core; devices = x; trail = t; counted = m; owed = o }) ds
+    ∙ (ap (λ x. record s { core = core; devices = e; trail = x; counted = m; owed = o }) ts
+    ∙ (ap (λ x. record s { core = core; devices = e; trail = u; counted = x; owed = o }) ns
+    ∙ ap (λ x. record s { core = core; devices = e; trail = u; counted = n; owed = x }) os))
 
 rushed-none : (s : McuState) → rushed s 0 (begun s.core s.devices.memory) ≡ s
 unfolding rushed owed_after
@@ -213,7 +213,7 @@ rushed-on s limit most calm k mid now ahead awake few next =
     ap (over_memory (meaning s.flash mid.core)) (lapsed-memory mid.spent ds) ∙ next.comes in
     let cycles = plain-settles s.flash mid.core now.core mid.memory now.memory next.cycles next.comes in
     let one : stepped here ≡ Give (gone Ran (plain_state here next.cycles now.core now.memory)) =
-    plain-stepped here next.cycles now.core now.memory (request-none here calm_here) awake few comes (owes-is s.flash mid.core next.plain) in
+    plain-stepped here next.cycles now.core now.memory (request-none here calm_here) awake few comes (owes-is s.flash mid.core now.core next.plain) in
     let lapses : passed next.cycles (record (lapsed mid.spent ds) { memory = now.memory }) ≡ lapsed now.spent (record s.devices { memory = now.memory }) =
     lapsed-more ds mid.spent next.cycles now.memory ahead.held cycles.0 ∙ ap (λ n. lapsed n (record s.devices { memory = now.memory })) (sym next.adds) in
     let trail : noted (noted_all s.trail mid.addresses) mid.core.pc ≡ noted_all s.trail now.addresses =
@@ -221,7 +221,8 @@ rushed-on s limit most calm k mid now ahead awake few next =
     let count : s.counted + k + 1 ≡ s.counted + suc k = omega arith in
     let lands : plain_state here next.cycles now.core now.memory ≡ rushed s (suc k) now =
     same-state s now.core (passed next.cycles (record (lapsed mid.spent ds) { memory = now.memory })) (lapsed now.spent (record s.devices { memory = now.memory }))
-    (noted (noted_all s.trail mid.addresses) mid.core.pc) (noted_all s.trail now.addresses) (s.counted + k + 1) (s.counted + suc k) lapses trail count in
+    (noted (noted_all s.trail mid.addresses) mid.core.pc) (noted_all s.trail now.addresses) (s.counted + k + 1) (s.counted + suc k)
+    (raises mid.core.sreg now.core.sreg) (raises now.was now.core.sreg) lapses trail count (ap (λ v. raises v now.core.sreg) (sym next.was_is)) in
     let time : here.devices.cycles ≡ s.devices.cycles + mid.spent = lapsed-cycles mid.spent ds in
     record {
       below = subst (λ n. n < limit) (sym time) (ahead.below mid.spent next.early);
@@ -237,36 +238,37 @@ rush-goes s limit most calm (suc k) now ahead awake few runs =
     (rushed s k runs.0, rush-goes s limit most calm k runs.0 ahead awake (omega (arith, few)) runs.1, rushed-on s limit most calm k runs.0 now ahead awake before runs.2)
 
 -- What the code leaves.
-owed-none : (k : ℕ) (owed : Bool) → 0 < k → owed_after k owed ≡ false
+owed-last : (k : ℕ) (before last : Bool) → 0 < k → owed_after k before last ≡ last
 unfolding owed_after
-owed-none zero owed some = absurd (omega arith)
-owed-none (suc k) owed some = refl
+owed-last zero before last some = absurd (omega arith)
+owed-last (suc k) before last some = refl
 
-rushed-is : (s : McuState) (k : ℕ) (core : Core) (memory addresses trail : List ℕ) (spent : ℕ) → 0 < k → k ≤ spent → trail ≡ noted_all s.trail addresses
-    → rushed s k (record { core = core; memory = memory; addresses = addresses; spent = spent })
-    ≡ record s { core = core; devices = passed spent (record s.devices { memory = memory }); trail = trail; counted = s.counted + k; owed = false }
+rushed-is : (s : McuState) (k : ℕ) (core : Core) (memory : List ℕ) (was : ℕ) (addresses trail : List ℕ) (spent : ℕ) → 0 < k → k ≤ spent → trail ≡ noted_all s.trail addresses
+    → rushed s k (record { core = core; memory = memory; was = was; addresses = addresses; spent = spent })
+    ≡ record s { core = core; devices = passed spent (record s.devices { memory = memory }); trail = trail; counted = s.counted + k; owed = raises was core.sreg }
 unfolding rushed
-rushed-is s k core memory addresses trail spent some least notes =
+rushed-is s k core memory was addresses trail spent some least notes =
     let took : (spent == 0) ≡ false = grind (arith, nat_tests) in
+    let last : Bool = raises was core.sreg in
     let ds : Devices = record s.devices { memory = memory } in
-    ap (λ d. record s { core = core; devices = d; trail = noted_all s.trail addresses; counted = s.counted + k; owed = owed_after k s.owed }) (cond-false (spent == 0) ds (passed spent ds) took)
-    ∙ (ap (λ t. record s { core = core; devices = passed spent ds; trail = t; counted = s.counted + k; owed = owed_after k s.owed }) (sym notes)
-    ∙ ap (λ o. record s { core = core; devices = passed spent ds; trail = trail; counted = s.counted + k; owed = o }) (owed-none k s.owed some))
+    ap (λ d. record s { core = core; devices = d; trail = noted_all s.trail addresses; counted = s.counted + k; owed = owed_after k s.owed last }) (cond-false (spent == 0) ds (passed spent ds) took)
+    ∙ (ap (λ t. record s { core = core; devices = passed spent ds; trail = t; counted = s.counted + k; owed = owed_after k s.owed last }) (sym notes)
+    ∙ ap (λ o. record s { core = core; devices = passed spent ds; trail = trail; counted = s.counted + k; owed = o }) (owed-last k s.owed last some))
 
-pub rush-ends : (s : McuState) (limit most calm k : ℕ) (core : Core) (memory addresses trail : List ℕ) (spent : ℕ) → IsAhead s limit most calm → s.asleep ≡ false
+pub rush-ends : (s : McuState) (limit most calm k : ℕ) (core : Core) (memory : List ℕ) (was : ℕ) (addresses trail : List ℕ) (spent : ℕ) → IsAhead s limit most calm → s.asleep ≡ false
     → s.counted + k ≤ 63 → 0 < k → k ≤ spent → trail ≡ noted_all s.trail addresses
-    → RunsPlain s.flash most calm k (begun s.core s.devices.memory) (record { core = core; memory = memory; addresses = addresses; spent = spent })
-    → GoesOn limit k s (record s { core = core; devices = passed spent (record s.devices { memory = memory }); trail = trail; counted = s.counted + k; owed = false })
-rush-ends s limit most calm k core memory addresses trail spent ahead awake few some least notes runs =
-    let now : Course = record { core = core; memory = memory; addresses = addresses; spent = spent } in
-    subst (λ t. GoesOn limit k s t) (rushed-is s k core memory addresses trail spent some least notes) (rush-goes s limit most calm k now ahead awake few runs)
+    → RunsPlain s.flash most calm k (begun s.core s.devices.memory) (record { core = core; memory = memory; was = was; addresses = addresses; spent = spent })
+    → GoesOn limit k s (record s { core = core; devices = passed spent (record s.devices { memory = memory }); trail = trail; counted = s.counted + k; owed = raises was core.sreg })
+rush-ends s limit most calm k core memory was addresses trail spent ahead awake few some least notes runs =
+    let now : Course = record { core = core; memory = memory; was = was; addresses = addresses; spent = spent } in
+    subst (λ t. GoesOn limit k s t) (rushed-is s k core memory was addresses trail spent some least notes) (rush-goes s limit most calm k now ahead awake few runs)
 
-pub rush-none : (s : McuState) (limit most calm k : ℕ) (core : Core) (memory addresses : List ℕ) (spent : ℕ) → k ≤ 0
-    → RunsPlain s.flash most calm k (begun s.core s.devices.memory) (record { core = core; memory = memory; addresses = addresses; spent = spent })
+pub rush-none : (s : McuState) (limit most calm k : ℕ) (core : Core) (memory : List ℕ) (was : ℕ) (addresses : List ℕ) (spent : ℕ) → k ≤ 0
+    → RunsPlain s.flash most calm k (begun s.core s.devices.memory) (record { core = core; memory = memory; was = was; addresses = addresses; spent = spent })
     → GoesOn limit k s (record s { core = core; devices = record s.devices { memory = memory } })
-rush-none s limit most calm zero core memory addresses spent none runs =
+rush-none s limit most calm zero core memory was addresses spent none runs =
     ap (λ (c : Course). record s { core = c.core; devices = record s.devices { memory = c.memory } }) runs
-rush-none s limit most calm (suc k) core memory addresses spent none runs = absurd (omega arith)
+rush-none s limit most calm (suc k) core memory was addresses spent none runs = absurd (omega arith)
 
 -- Cycles asleep.
 dozed : McuState → ℕ → McuState

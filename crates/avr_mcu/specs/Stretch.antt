@@ -1,5 +1,5 @@
 -- Many steps at once that ask nothing of the bus.
-use Rattle.std.specs.Prelude.{◌≡◌, ℕ, zero, suc, ◌+◌, ◌<◌, ◌⊎◌, Bool, true, false, List, [], ◌∷◌, ◌++◌, Option, Some, if◌then◌else◌}
+use Rattle.std.specs.Prelude.{◌≡◌, ℕ, zero, suc, ◌+◌, ◌<◌, ◌⊎◌, false, List, [], ◌∷◌, ◌++◌, Option, Some, if◌then◌else◌}
 use Rattle.avr_core.specs.Ask.{Give}
 use Rattle.avr_core.specs.Code.{said_at}
 use Rattle.avr_core.specs.Meaning.{meaning}
@@ -19,15 +19,17 @@ abbrev pub noted_all : List ℕ → List ℕ → List ℕ
 noted_all trail [] = trail
 noted_all trail (at ∷ more) = noted_all (noted trail at) more
 
--- What plain instructions made of a core and its memory, the addresses at which they stand, and the cycles that they took.
+-- What plain instructions made of a core and its memory, SREG before the last of them, the addresses at which they stand, and the cycles
+-- that they took.
 pub record Course : Type 0 where
   pub core : Core
   pub memory : List ℕ
+  pub was : ℕ
   pub addresses : List ℕ
   pub spent : ℕ
 
 abbrev pub begun : Core → List ℕ → Course
-begun core memory = record { core = core; memory = memory; addresses = []; spent = 0 }
+begun core memory = record { core = core; memory = memory; was = core.sreg; addresses = []; spent = 0 }
 
 -- One more instruction ran, and reached nothing but the core and SRAM; it began before `most` cycles were spent, and before `calm` or
 -- with I clear, and is neither SEI nor RETI.
@@ -37,6 +39,7 @@ pub record IsNext (flash : List ℕ) (most calm : ℕ) (before now : Course) : T
   pub calm_is : (before.spent < calm) ⊎ (is_set before.core.sreg I ≡ false)
   pub comes : over_memory (meaning flash before.core) before.memory ≡ Some (served (ran cycles now.core) now.memory)
   pub plain : is_owing (said_at flash (in_flash before.core.pc)) ≡ false
+  pub was_is : now.was ≡ before.core.sreg
   pub adds : now.spent ≡ before.spent + cycles
   pub notes : now.addresses ≡ before.addresses ++ before.core.pc ∷ []
 

@@ -1,12 +1,12 @@
 //! The microcontroller: its steps, one at a time.
-ghost use Rattle.std.specs.Prelude.{◌≡◌, ◌+◌, ◌<◌, ◌≤◌, ◌^◌, true, false, IfOk, slice_get};
+ghost use Rattle.std.specs.Prelude.{◌≡◌, ◌+◌, ◌<◌, ◌≤◌, ◌^◌, ◌||◌, true, false, IfOk, slice_get};
 ghost use Rattle.avr_core.specs.Ask.{Plays};
 ghost use Rattle.avr_mcu.specs.Settled.{IsKept, IsTimed};
 ghost use Rattle.avr_mcu.specs.Stretch.{GoesOn};
 ghost use Rattle.avr_space.specs.Quiet.{IsQuietUntil};
-ghost use Rattle.avr_mcu.specs.Step.{counting, entered, entry, finished, gone, instruction, looking, owes, passing, request, sleeping, stepped};
+ghost use Rattle.avr_mcu.specs.Step.{counting, entered, entry, finished, gone, instruction, looking, passing, raises, request, sleeping, stepped};
 
-use crate::stretch::stretch;
+use crate::stretch::{raises, stretch};
 use crate::trail::Trail;
 use crate::went::McuWent;
 use avr_core::{Code, Core, Went};
@@ -150,7 +150,7 @@ impl Mcu {
         let most = cycles_ahead(now, limit, self.devices.printed_at());
         let calm = cycles_ahead(now, u64::MAX, self.calm_until());
         let mut addresses = [0u16; 64];
-        let (ran, spent) = stretch(
+        let (ran, spent, was) = stretch(
             &self.code,
             &mut self.core,
             &mut self.devices.memory,
@@ -161,7 +161,7 @@ impl Mcu {
         );
         if ran > 0 {
             self.trail.note_all(&addresses[..ran as usize]);
-            self.owed = false;
+            self.owed = raises(was, self.core.sreg());
             self.counted += ran;
             self.devices.pass(spent);
         }
@@ -234,18 +234,12 @@ impl Mcu {
         requires { self.old.devices.cycles < 2 ^ 63 }
         ensures { Plays B.did peer.old (instruction self.old) (gone result self.new) peer.new }
     {
-        let owed = self.owes();
+        let always = self.core.owes(&self.code);
+        let was = self.core.sreg();
         self.trail.note(self.core.pc());
         let went = run_instruction(&mut self.core, &self.code, &mut self.devices, peer);
+        let owed = owes_behind(always, was, self.core.sreg());
         self.finish(owed, went, peer)
-    }
-
-    /// Whether the next instruction is SEI or RETI.
-    #[tactic(auto, unfolding(crate::specs::Step::owes))]
-    fn owes(&self) -> bool
-        ensures { result ≡ owes self.now.flash self.now.core }
-    {
-        self.core.owes(&self.code)
     }
 
     /// What follows once the core has gone so (apart, as above).
@@ -338,6 +332,13 @@ impl Mcu {
     {
         self.trail.get(i)
     }
+}
+
+/// Whether an instruction is owed behind one that always owes, being SEI or RETI, or that made the one SREG the other.
+fn owes_behind(always: bool, before: u8, after: u8) -> bool
+    ensures { result ≡ (always || raises before after) }
+{
+    always || raises(before, after)
 }
 
 /// The cycles from now on that are left to a limit, and to a count that may be past.

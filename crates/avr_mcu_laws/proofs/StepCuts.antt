@@ -65,9 +65,9 @@ instruction-cuts : (s : McuState) → GoneCuts (instruction s)
 unfolding instruction
 instruction-cuts s =
     let after : Handled Stepped → McuState = λ h. record s { core = h.answer.core; devices = h.devices; trail = noted s.trail s.core.pc } in
-    cuts-followed bus_over core_over gone_over (through (meaning s.flash s.core) s.devices) (λ h. finished (owes s.flash s.core) h.answer.went (after h))
+    cuts-followed bus_over core_over gone_over (through (meaning s.flash s.core) s.devices) (λ h. finished (owes s.flash s.core h.answer.core) h.answer.went (after h))
     (through-cuts (meaning s.flash s.core) s.devices (meaning-cuts s.flash s.core))
-    (λ h. finished-cuts (owes s.flash s.core) h.answer.went (after h))
+    (λ h. finished-cuts (owes s.flash s.core h.answer.core) h.answer.went (after h))
 
 entry-cuts : (vector : ℕ) (s : McuState) → GoneCuts (entry vector s)
 unfolding entry

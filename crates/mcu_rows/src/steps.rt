@@ -80,7 +80,7 @@ const EXCHANGE: [u16; 16] = [
     0x9210, 0x00C6, 0x9A2A, 0x9598,
 ];
 
-const CASES: [Case; 23] = [
+const CASES: [Case; 26] = [
     // A byte is printed.
     Case {
         name: "print 41",
@@ -212,19 +212,66 @@ const CASES: [Case; 23] = [
         asked: &[],
         trail: &[0, 1, 3, 4, 0x26],
     },
-    // I is set by a write of SREG: nothing is owed.
+    // A frame of avr-gcc: `out SREG` sets I, and `out SPL` runs before the entry, one instruction and no more.
     Case {
         name: "out to SREG",
-        words: &[0xE288, 0x9380, 0x00C1, 0xE880, 0xBF8F, 0x0000],
+        words: &[0xE288, 0x9380, 0x00C1, 0xE880, 0xBF8F, 0xBF8D, 0x0000],
         vector: 0x26,
         handler: &[0x9598],
         answers: &[],
         limit: 1000,
         end: RunEnd::Break,
-        cycles: 10,
+        cycles: 11,
         serial: &[],
         asked: &[],
-        trail: &[0, 1, 3, 4, 0x26],
+        trail: &[0, 1, 3, 4, 5, 0x26],
+    },
+    // The same by `st`, with X at data address 005F.
+    Case {
+        name: "st to SREG",
+        words: &[
+            0xE288, 0x9380, 0x00C1, 0xE880, 0xE5AF, 0x938C, 0x0000, 0x0000,
+        ],
+        vector: 0x26,
+        handler: &[0x9598],
+        answers: &[],
+        limit: 1000,
+        end: RunEnd::Break,
+        cycles: 13,
+        serial: &[],
+        asked: &[],
+        trail: &[0, 1, 3, 4, 5, 6, 0x26],
+    },
+    // `out SREG` is what SEI owes. I was set before it, so it owes nothing.
+    Case {
+        name: "out to SREG with I set",
+        words: &[0xE288, 0x9380, 0x00C1, 0xE880, 0x9478, 0xBF8F, 0x0000],
+        vector: 0x26,
+        handler: &[0x9598],
+        answers: &[],
+        limit: 1000,
+        end: RunEnd::Break,
+        cycles: 11,
+        serial: &[],
+        asked: &[],
+        trail: &[0, 1, 3, 4, 5, 0x26],
+    },
+    // Timer 0 overflows between `cli` and the `out SREG` that sets I again, all plain instructions.
+    Case {
+        name: "SREG is restored",
+        words: &[
+            0xEF8B, 0xBD86, 0xE081, 0x9380, 0x006E, 0xBD85, 0x9478, 0xB78F, 0x94F8, 0x0000, 0xBF8F,
+            0x0000, 0x0000,
+        ],
+        vector: 0x20,
+        handler: &[0x9598],
+        answers: &[],
+        limit: 1000,
+        end: RunEnd::Break,
+        cycles: 17,
+        serial: &[],
+        asked: &[],
+        trail: &[0, 1, 2, 3, 5, 6, 7, 8, 9, 10, 11, 0x20],
     },
     // A request is still pending at `reti`: one instruction runs before the next entry.
     Case {

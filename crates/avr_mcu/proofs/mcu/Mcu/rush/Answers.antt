@@ -1,10 +1,11 @@
-use Rattle.std.proofs.Common.{◌≡◌, ◌+◌, ◌-◌, ◌≤◌, ◌<◌, ℕ, false, List, take, ap, sym, subst, ◌∙◌, arith}
+use Rattle.std.proofs.Common.{◌≡◌, ◌+◌, ◌≤◌, ◌<◌, ℕ, List, take, ap, sym, subst, ◌∙◌, arith}
 use Rattle.avr_space.specs.Devices.{passed}
-use Rattle.avr_space.specs.Quiet.{IsQuietUntil, PrintsNoneUntil}
+use Rattle.avr_space.specs.Quiet.{PrintsNoneUntil}
 use Rattle.avr_space.specs.declared.devices.Devices.{Devices}
 use Rattle.avr_core.specs.declared.cpu.Core.{Core}
 use Rattle.avr_timer.specs.Laws.{IsHeld}
 use Rattle.avr_mcu.specs.State.{McuState}
+use Rattle.avr_mcu.specs.Step.{raises}
 use Rattle.avr_mcu.specs.Stretch.{GoesOn, RunsPlain, begun, noted_all}
 use Rattle.avr_mcu.proofs.Stretches.{IsAhead, ahead-of, rush-ends}
 use Rattle.avr_mcu.proofs.Timing.{passed-cycles}
@@ -30,6 +31,7 @@ returns-then-ran-gt0-clause-goes c =
     let core : Core = c.stretch-ran.new.core in
     let memory : List ℕ = c.stretch-ran.new.memory in
     let addresses : List ℕ = take k c.stretch-ran.new.addresses in
+    let was : ℕ = c.stretch-ran.result.2 in
     let trail : List ℕ = c.note_all.new.self in
     let clock : c.self.inside.devices.cycles ≡ s.devices.cycles = ap (λ (m : McuState). m.devices.cycles) is in
     let count : c.self.inside.counted ≡ s.counted = ap (λ (m : McuState). m.counted) is in
@@ -45,12 +47,14 @@ returns-then-ran-gt0-clause-goes c =
     let some : 0 < k = c.if-ran-gt0.true in
     let notes : trail ≡ noted_all s.trail addresses =
     c.note_all.ensures ∙ ap (λ (m : McuState). noted_all m.trail addresses) is in
-    let runs : RunsPlain s.flash most calm k (begun s.core s.devices.memory) (record { core = core; memory = memory; addresses = addresses; spent = spent }) =
-    subst (λ (m : McuState). RunsPlain m.flash most calm k (begun m.core m.devices.memory) (record { core = core; memory = memory; addresses = addresses; spent = spent })) is c.stretch-ran.ensures.runs in
-    let goes : GoesOn c.args.limit k s (record s { core = core; devices = passed spent (record s.devices { memory = memory }); trail = trail; counted = s.counted + k; owed = false }) =
-    rush-ends s c.args.limit most calm k core memory addresses trail spent ahead c.requires.awake (omega (arith, room, left, some)) some c.stretch-ran.ensures.least notes runs in
-    subst (λ d. GoesOn c.args.limit k s (record view { core = core; devices = d; trail = trail; counted = view.counted + k; owed = false })) (sym c.pass.ensures)
-    (subst (λ (m : McuState). GoesOn c.args.limit k s (record m { core = core; devices = passed spent (record m.devices { memory = memory }); trail = trail; counted = m.counted + k; owed = false })) (sym is) goes)
+    let runs : RunsPlain s.flash most calm k (begun s.core s.devices.memory) (record { core = core; memory = memory; was = was; addresses = addresses; spent = spent }) =
+    subst (λ (m : McuState). RunsPlain m.flash most calm k (begun m.core m.devices.memory) (record { core = core; memory = memory; was = was; addresses = addresses; spent = spent })) is c.stretch-ran.ensures.runs in
+    let goes : GoesOn c.args.limit k s (record s { core = core; devices = passed spent (record s.devices { memory = memory }); trail = trail; counted = s.counted + k; owed = raises was core.sreg }) =
+    rush-ends s c.args.limit most calm k core memory was addresses trail spent ahead c.requires.awake (omega (arith, room, left, some)) some c.stretch-ran.ensures.least notes runs in
+    let owed_is : raises was core.sreg ≡ c.raises-self-inside.result = sym (c.raises-self-inside.ensures ∙ ap (λ v. raises was v) c.sreg.ensures) in
+    subst (λ o. GoesOn c.args.limit k s (record view { core = core; devices = c.pass.new.self; trail = trail; counted = view.counted + k; owed = o })) owed_is
+    (subst (λ d. GoesOn c.args.limit k s (record view { core = core; devices = d; trail = trail; counted = view.counted + k; owed = raises was core.sreg })) (sym c.pass.ensures)
+    (subst (λ (m : McuState). GoesOn c.args.limit k s (record m { core = core; devices = passed spent (record m.devices { memory = memory }); trail = trail; counted = m.counted + k; owed = raises was core.sreg })) (sym is) goes))
 
 pub returns-then-ran-gt0-clause-from : goal.returns-then-ran-gt0-clause-from
 returns-then-ran-gt0-clause-from c =
