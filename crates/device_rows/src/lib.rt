@@ -1,7 +1,11 @@
-//! Worked rows of the microcontroller's devices, by values worked by hand from the datasheet: ports, timers, SPI and USART. Nothing
-//! stands on it.
+//! Worked rows of the microcontroller's devices, by values worked by hand from the datasheet: ports, timers, SPI, USART,
+//! EEPROM and console. Nothing stands on it.
 #![tactic(auto)]
 
+#[cfg(test)]
+mod console;
+#[cfg(test)]
+mod eeprom;
 #[cfg(test)]
 mod ports;
 #[cfg(test)]

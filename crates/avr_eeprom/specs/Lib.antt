@@ -1,0 +1,4 @@
+pub mod Names
+pub mod Cells
+pub mod Eeprom
+pub mod Laws
