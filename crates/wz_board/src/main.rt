@@ -6,6 +6,7 @@
 
 mod boards;
 mod end;
+mod hints;
 #[cfg(test)]
 mod host_tests;
 mod left;
@@ -29,6 +30,13 @@ use wz_real::{StdFiles, StdOut};
 /// The exit status where the system refuses what a live run waits with.
 const HOST_REFUSED: u8 = 13;
 
+/// Says on standard error what helps behind a refusal. A failed write changes nothing.
+fn tell(rt: &HostRuntime, words: &[String], files: &mut StdFiles<'_, HostRuntime>, end: EndKind) {
+    if let Some(line) = hints::hint(rt.alloc(), words, files, end) {
+        let _ = eprintln!(rt; "wz_board: {line}");
+    }
+}
+
 fn main(rt: HostRuntime) -> ExitCode {
     // Words that are no text are no written form, as no words are.
     let words: Vec<String> = match env::args(&rt) {
@@ -42,7 +50,10 @@ fn main(rt: HostRuntime) -> ExitCode {
     let mut out = StdOut::new(io::writer(&rt));
     // Only a live run asks the system for more than files and output.
     match quick::quick(rt.alloc(), &words, &mut files, &mut out) {
-        Some(ended) => ExitCode::from(ended.status),
+        Some(ended) => {
+            tell(&rt, &words, &mut files, ended.end);
+            ExitCode::from(ended.status)
+        }
         None => match host_pair(&rt, rt.alloc()) {
             Ok((links, poller)) => {
                 let ended = top::top(
@@ -55,6 +66,7 @@ fn main(rt: HostRuntime) -> ExitCode {
                     poller,
                     &OpenGate,
                 );
+                tell(&rt, &words, &mut files, ended.end);
                 ExitCode::from(ended.status)
             }
             Err(HostFault::Refused) => ExitCode::from(HOST_REFUSED),
