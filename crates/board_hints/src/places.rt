@@ -49,6 +49,7 @@ pub fn keys_of(place: Place) -> &'static [Key]
             Key::After,
             Key::End,
             Key::Fail,
+            Key::Lag,
         ],
         Place::Server => &[
             Key::Kind,
@@ -61,6 +62,7 @@ pub fn keys_of(place: Place) -> &'static [Key]
             Key::After,
             Key::End,
             Key::Fail,
+            Key::Lag,
         ],
     }
 }
