@@ -1,6 +1,6 @@
 //! Worked steps of one socket, number 3, whose outgoing place is 6 and whose incoming place is 7.
 
-use Step::{Command, Link, Reset, Unsized};
+use Step::{Command, Elsewhere, Link, Reset, Unsized};
 use chip_sheet::event::{Addr, ConnId, LinkWhat};
 use chip_sheet::socket::Due;
 use chip_sheet::socket::Due::{
@@ -14,6 +14,11 @@ use sock_cmd::life::Life;
 const PEER: Addr = Addr {
     ip: [10, 0, 0, 2],
     port: 5000,
+};
+
+const OTHER: Addr = Addr {
+    ip: [10, 0, 0, 9],
+    port: 80,
 };
 
 const PORT: u16 = 7777;
@@ -32,6 +37,8 @@ enum Step {
     Command(u8, u8, Result<Effect, ChipStop>),
     /// The same, while the buffer sizes are not valid.
     Unsized(u8, u8, Result<Effect, ChipStop>),
+    /// The same, while Sn_DIPR and Sn_DPORT hold another address.
+    Elsewhere(u8, u8, Result<Effect, ChipStop>),
     /// A link event.
     Link(LinkWhat<'static>),
     /// A reset of the chip.
@@ -64,6 +71,8 @@ const CLOSE: Step = Command(0x10, 0x01, Ok(Effect::Closed));
 
 const SEND: Step = Command(0x20, 0x02, Ok(Effect::Send));
 
+const SEND_ELSEWHERE: Step = Elsewhere(0x20, 0x01, Ok(Effect::Nothing));
+
 const RECV: Step = Command(0x40, 0x02, Ok(Effect::Recv));
 
 const ACCEPTED: Step = Link(LinkWhat::Accepted(PEER));
@@ -77,7 +86,7 @@ const RECEIVING: Due = RecvFrom(FOURTH, PORT);
 const SENDING: Due = SendTo(FOURTH, PORT, PEER);
 
 /// Each step, the bytes in flight after it, and then the status and what is due at both places while 9 bytes are free.
-const STEPS: [(Step, u32, u8, Due, Due); 29] = [
+const STEPS: [(Step, u32, u8, Due, Due); 30] = [
     (UNSIZED_TCP, 0, 0x00, NONE, NONE),
     (UNSIZED_MULTICAST, 0, 0x00, NONE, NONE),
     (UNSIZED_RAW, 0, 0x00, NONE, NONE),
@@ -98,6 +107,7 @@ const STEPS: [(Step, u32, u8, Due, Due); 29] = [
     (Link(LinkWhat::Dropped), 0, 0x00, NONE, NONE),
     (OPEN_TCP, 0, 0x13, NONE, NONE),
     (CONNECT, 0, 0x15, CONNECTING, NONE),
+    (SEND_ELSEWHERE, 0, 0x15, CONNECTING, NONE),
     (Link(LinkWhat::Linked), 0, 0x17, NONE, Read(THIRD)),
     (DISCON, 0, 0x18, Shut(THIRD), ReadAway(THIRD)),
     (Link(LinkWhat::Shut), 0, 0x18, NONE, ReadAway(THIRD)),
@@ -133,6 +143,17 @@ fn lives_by_the_table(rt: HostRuntime) {
             ),
             Unsized(c, mr, want) => assert_eq!(rt;
                 life.command(c, registers(mr, false)),
+                want,
+                "{step:?}"
+            ),
+            Elsewhere(c, mr, want) => assert_eq!(rt;
+                life.command(
+                    c,
+                    CmdAt {
+                        to: OTHER,
+                        ..registers(mr, true)
+                    }
+                ),
                 want,
                 "{step:?}"
             ),

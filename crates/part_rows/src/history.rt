@@ -14,6 +14,9 @@ const PEER: Addr = Addr {
 /// A piece that begins two units of weight.
 const PIECE: [u8; 33] = [7; 33];
 
+/// A piece that begins one, and ends with it.
+const LONGEST_OF_ONE: [u8; 32] = [8; 32];
+
 /// Adds an event after it made room, where the history is not full.
 fn add(history: &mut History, event: Event<'_>) -> Result<(), Fail> {
     if history.is_full() {
@@ -39,7 +42,7 @@ fn each_kind_comes_back(rt: HostRuntime) -> Result<(), Fail> {
         Event::Link(3, TimedOut),
         Event::Link(4, Took(1460)),
         Event::Link(5, Got(&PIECE)),
-        Event::Link(6, Datagram(PEER, b"ab")),
+        Event::Link(6, Datagram(PEER, &LONGEST_OF_ONE)),
         Event::Link(7, Datagram(PEER, b"")),
         Event::Rest,
         Event::Link(0, Ended),
