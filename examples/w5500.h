@@ -1,47 +1,9 @@
-/* A W5500 on the SPI of an ATmega328P: SCSn on PB2, MOSI on PB3, MISO on PB4, SCK on PB5, INTn on PD2.
-
-   The first four functions are what WIZnet's ioLibrary is given by
-       reg_wizchip_cs_cbfunc(chip_select, chip_deselect);
-       reg_wizchip_spi_cbfunc(spi_read, spi_write);
-   The rest stands in for ioLibrary, with the frames and the order of calls of its socket.c, so that the examples need nothing else. */
+/* A W5500 on the SPI of an ATmega328P, whose pins and bytes are in spi.h; INTn is on PD2. This stands in for WIZnet's ioLibrary, with the
+   frames and the order of calls of its socket.c, so that the examples need nothing else. wizchip.h does so by ioLibrary's names. */
 #ifndef W5500_H
 #define W5500_H
 
-#include <avr/io.h>
-#include <stdint.h>
-
-static inline void chip_select(void)
-{
-    PORTB &= ~(1 << PB2);
-}
-
-static inline void chip_deselect(void)
-{
-    PORTB |= 1 << PB2;
-}
-
-/* SPIF rises when the byte has been exchanged. */
-static inline void spi_write(uint8_t byte)
-{
-    SPDR = byte;
-    while (!(SPSR & (1 << SPIF)))
-        ;
-}
-
-static inline uint8_t spi_read(void)
-{
-    spi_write(0);
-    return SPDR;
-}
-
-/* The SPI as master in mode 0 at half the clock; the select line is high before it becomes an output. */
-static inline void spi_begin(void)
-{
-    PORTB |= 1 << PB2;
-    DDRB |= 1 << PB2 | 1 << PB3 | 1 << PB5;
-    SPCR = 1 << SPE | 1 << MSTR;
-    SPSR = 1 << SPI2X;
-}
+#include "spi.h"
 
 /* Blocks: the common registers; of socket n its registers, its TX buffer, its RX buffer. */
 #define COMMON 0

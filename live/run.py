@@ -327,6 +327,80 @@ def try_datagrams():
     )
 
 
+def try_wiz_server():
+    """The server after ioLibrary's loop, on one socket: one client after the other, each once it listens."""
+    port = free_port()
+    texts = [noise(4, 5000), b"Hello, board\n", b"bye"]
+    with Run(PROGRAM, "wiz_server", example("wiz_server", "events = 67108864\n", p15000=port)) as run:
+        run.prints("listening on port 5000\n")
+        for text in texts:
+            echo_whole(port, text, 5)
+            run.prints(f"ended after {len(text)} bytes\n" + ("" if text == b"bye" else "listening on port 5000\n"))
+        report = run.ends(0, "break")
+    count = sum(map(len, texts))
+    want(report[0] == f"0 00 3 {count} {count} {count}", f"{count} bytes both ways in three lives; it says {report[0]}")
+    return f"{len(texts)} clients after one another, {count} bytes back"
+
+
+def try_wiz_client():
+    """The client after ioLibrary's loop connects to a server of this script until it is refused."""
+    port = free_port()
+    line = b"Hello from the board\n"
+    with socket.create_server(("127.0.0.1", port)) as listener:
+        listener.settimeout(PATIENCE)
+        with Run(PROGRAM, "wiz_client", example("wiz_client", "events = 67108864\n", p18080=port)) as run:
+            for answer in (b"Hello, board\nGood-bye\n", b""):
+                it, _ = listener.accept()
+                if not answer:
+                    listener.close()
+                with it:
+                    want(received(it, len(line)) == line, "the firmware's line")
+                    it.sendall(answer)
+                    it.shutdown(socket.SHUT_WR)
+                    want(rest_of(it) == b"", "the firmware's end")
+            report = run.ends(0, "break")
+            end = b"the server has ended\n"
+            text = b"connected\nHello, board\nGood-bye\n" + end + b"connected\n" + end + b"refused\n"
+            want(run.printed.startswith(text), f"two connections and a refused one; it printed {run.printed!r}")
+    want(report[0] == "0 00 3 42 42 22", f"42 bytes sent and 22 received; it says {report[0]}")
+    return "two connections, then 'refused' on the firmware's side"
+
+
+def answer(it, to, body):
+    """Sends a datagram again until an answer comes, since the firmware's port may be bound later than its line is printed."""
+    end = time.monotonic() + PATIENCE
+    while time.monotonic() < end:
+        it.sendto(body, to)
+        try:
+            return it.recvfrom(65536)[0]
+        except TimeoutError:
+            pass
+    raise Unseen("an answer")
+
+
+def try_wiz_udp():
+    """The UDP server after ioLibrary's loop sends datagrams back, a longer one than its buffer in pieces."""
+    port = free_port(socket.SOCK_DGRAM)
+    with socket.socket(socket.AF_INET, socket.SOCK_DGRAM) as it:
+        it.bind(("127.0.0.1", 0))
+        it.settimeout(1)
+        board = example("wiz_udp", "events = 67108864\n", p15001=port, p17000=it.getsockname()[1])
+        with Run(PROGRAM, "wiz_udp", board) as run:
+            run.prints("waiting on port 5000\n")
+            to = ("127.0.0.1", port)
+            for size in (1, 100, 256):
+                body = noise(size, size)
+                want(answer(it, to, body) == body, f"the {size} bytes back")
+            body = noise(6, TAKEN)
+            got = answer(it, to, body)
+            while len(got) < len(body):
+                got += it.recvfrom(65536)[0]
+            want(got == body, f"{TAKEN} bytes back in pieces")
+            want(answer(it, to, b"bye") == b"bye", "'bye' sent back")
+            report = run.ends(0, "break")
+    return f"5 datagrams back, the longest of {TAKEN} bytes in 6 pieces; {report['bus']} events of the bus"
+
+
 def try_endings():
     """Each way in which a run ends by itself, its status and its report."""
     seen = []
