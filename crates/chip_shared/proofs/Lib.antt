@@ -18,3 +18,4 @@ pub mod Seeking
 pub mod Opens
 pub mod Needs
 pub mod SendFits
+pub mod Plain

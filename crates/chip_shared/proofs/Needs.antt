@@ -19,6 +19,7 @@ use Rattle.chip_shared.specs.State.{State, Keeps}
 use Rattle.chip_shared.specs.Tied.{Tied, Ready}
 use Rattle.chip_shared.specs.Sound.{Sound, state_of}
 use Rattle.chip_shared.specs.Asking.{IsOpen}
+use Rattle.chip_shared.specs.Making.{IsSmall}
 use Rattle.chip_shared.specs.Calling.{Idles, first_due, is_due}
 use Rattle.chip_shared.specs.declared.shared.LinkDid.TheVariants as did
 use Rattle.chip_shared.proofs.DueFacts.{Says, says}
@@ -48,19 +49,7 @@ half place few = omega (arith, few)
 sn_of : (starts : Starts) (past : Past) (n : ℕ) (c : ConnId) → n < 8 → c ≡ connection n (lives past n) → c.sn < 8
 sn_of starts past n c few is = rw is few
 
-abbrev Small : Due → Type 0
-Small due.Nothing = Unit {0}
-Small (due.Drop c) = c.sn < 8
-Small (due.Connect c to) = c.sn < 8
-Small (due.Write c) = c.sn < 8
-Small (due.SendTo c port to) = c.sn < 8
-Small (due.Shut c) = c.sn < 8
-Small (due.Accept c port) = c.sn < 8
-Small (due.Read c) = c.sn < 8
-Small (due.ReadAway c) = c.sn < 8
-Small (due.RecvFrom c port) = c.sn < 8
-
-small_by : (starts : Starts) (past : Past) (n : ℕ) (call : Due) → n < 8 → Says (status past n) (connection n (lives past n)) (kept_address past n) (flight starts past n) (old past n) call → Small call
+small_by : (starts : Starts) (past : Past) (n : ℕ) (call : Due) → n < 8 → Says (status past n) (connection n (lives past n)) (kept_address past n) (flight starts past n) (old past n) call → IsSmall call
 small_by starts past n due.Nothing few told = tt
 small_by starts past n (due.Drop c) few told = rw told.0 few
 small_by starts past n (due.Connect c to) few told = sn_of starts past n c few told
@@ -72,8 +61,8 @@ small_by starts past n (due.Read c) few told = sn_of starts past n c few told.0
 small_by starts past n (due.ReadAway c) few told = sn_of starts past n c few told.0
 small_by starts past n (due.RecvFrom c port) few told = sn_of starts past n c few told.0
 
-pub small_call : (starts : Starts) (past : Past) (place : ℕ) (call : Due) → place < 16 → due_at starts past place ≡ call → Small call
-small_call starts past place call few is = subst Small is (small_by starts past (place / 2) (due_at starts past place) (half place few) (says starts past place))
+pub small_call : (starts : Starts) (past : Past) (place : ℕ) (call : Due) → place < 16 → due_at starts past place ≡ call → IsSmall call
+small_call starts past place call few is = subst IsSmall is (small_by starts past (place / 2) (due_at starts past place) (half place few) (says starts past place))
 
 -- A call that is due, by the state.
 pub due_told : {L : Type 0} (before : State L) (chip : Chip) (log : Log) (links : L) (calls place : ℕ) (told call : Due) → state_of chip log links calls ≡ before → told ≡ due_at (starts_of chip) log.past place → told ≡ call

@@ -8,3 +8,4 @@ pub mod Causes
 pub mod Sweeping
 pub mod Draining
 pub mod Closing
+pub mod Making

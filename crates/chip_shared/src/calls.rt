@@ -1,6 +1,5 @@
 //! The calls of link steps, one function a kind: the call is made on what the chip lends, and its answer stands in the history.
 ghost use Rattle.std.specs.Prelude.{◌≡◌, ◌≤◌, ◌<◌, ◌+◌, ◌∷◌, ℕ, true, None, Some, length, MatchOption};
-ghost use Rattle.chip_sheet.specs.declared.socket.Due.TheVariants as due;
 ghost use Rattle.chip_sheet.specs.Past.{Past, link_entry};
 ghost use Rattle.chip_sheet.specs.Streams.{Starts};
 ghost use Rattle.chip_sheet.specs.LinkCalls.{due_at};
@@ -12,12 +11,15 @@ ghost use Rattle.chip_shared.specs.Entries.{entry_for};
 ghost use Rattle.chip_shared.specs.Calling.{Called};
 ghost use Rattle.chip_shared.specs.Asking.{IsOpen};
 ghost use Rattle.chip_shared.specs.Causes.{Does};
+ghost use Rattle.chip_shared.specs.Making.{IsPlain};
 
 use crate::answers;
+use crate::making::make;
 use crate::shared::{LinkDid, Shared};
 use chip_core::{Chip, laws};
 use chip_hist::History;
-use chip_sheet::event::{Addr, ConnId, Event, LinkWhat};
+use chip_sheet::event::{Event, LinkWhat};
+use chip_sheet::socket::Due;
 use link_trait::links::Links;
 
 /// Takes what the link of a socket did into chip and history; where it did nothing, a turn in which nothing happened into the history.
@@ -47,102 +49,11 @@ pub(crate) fn settle(chip: &mut Chip, history: &mut History, sn: u8, what: Optio
 }
 
 impl<L: Links> Shared<L> {
-    /// Makes the connection that CONNECT asked for.
-    pub(crate) fn connect_step(&mut self, place: u8, c: ConnId, to: Addr) -> LinkDid
+    /// Makes a call that is due and reads nothing.
+    pub(crate) fn plain_step(&mut self, place: u8, call: Due) -> LinkDid
         requires place { place < 16 }
-        requires due { due_at self.old.starts self.old.log.past place ≡ due.Connect c to }
-        requires open_ { IsOpen self.old }
-        requires room { 0 < self.old.log.spare_events }
-        requires data_room { most_read ≤ self.old.log.spare_bytes }
-        ensures called { Called (Does L.effect L.shown) self.old place result self.new }
-    {
-        laws::short_is_few();
-        laws::starts_are();
-        laws::fits_agrees();
-        let what = answers::linked(self.links.connect(c, to));
-        settle(&mut self.chip, &mut self.history, place / 2, what);
-        self.calls += 1;
-        answers::did(place, &what)
-    }
-
-    /// Waits for a peer on the port kept at LISTEN.
-    pub(crate) fn accept_step(&mut self, place: u8, c: ConnId, port: u16) -> LinkDid
-        requires place { place < 16 }
-        requires due { due_at self.old.starts self.old.log.past place ≡ due.Accept c port }
-        requires open_ { IsOpen self.old }
-        requires room { 0 < self.old.log.spare_events }
-        requires data_room { most_read ≤ self.old.log.spare_bytes }
-        ensures called { Called (Does L.effect L.shown) self.old place result self.new }
-    {
-        laws::short_is_few();
-        laws::starts_are();
-        laws::fits_agrees();
-        let what = answers::accepted(self.links.accept(c, port));
-        settle(&mut self.chip, &mut self.history, place / 2, what);
-        self.calls += 1;
-        answers::did(place, &what)
-    }
-
-    /// Ends the outgoing direction.
-    pub(crate) fn shut_step(&mut self, place: u8, c: ConnId) -> LinkDid
-        requires place { place < 16 }
-        requires due { due_at self.old.starts self.old.log.past place ≡ due.Shut c }
-        requires open_ { IsOpen self.old }
-        requires room { 0 < self.old.log.spare_events }
-        requires data_room { most_read ≤ self.old.log.spare_bytes }
-        ensures called { Called (Does L.effect L.shown) self.old place result self.new }
-    {
-        laws::short_is_few();
-        laws::starts_are();
-        laws::fits_agrees();
-        let what = answers::shut(self.links.shut(c));
-        settle(&mut self.chip, &mut self.history, place / 2, what);
-        self.calls += 1;
-        answers::did(place, &what)
-    }
-
-    /// Lets the link forget a life that has closed.
-    pub(crate) fn drop_step(&mut self, place: u8, c: ConnId) -> LinkDid
-        requires place { place < 16 }
-        requires due { due_at self.old.starts self.old.log.past place ≡ due.Drop c }
-        requires open_ { IsOpen self.old }
-        requires room { 0 < self.old.log.spare_events }
-        requires data_room { most_read ≤ self.old.log.spare_bytes }
-        ensures called { Called (Does L.effect L.shown) self.old place result self.new }
-    {
-        laws::short_is_few();
-        laws::starts_are();
-        laws::fits_agrees();
-        self.links.drop_conn(c);
-        let what = answers::dropped();
-        settle(&mut self.chip, &mut self.history, place / 2, what);
-        self.calls += 1;
-        answers::did(place, &what)
-    }
-
-    /// Offers the bytes in flight of a stream, up to the end of the buffer.
-    pub(crate) fn write_step(&mut self, place: u8, c: ConnId) -> LinkDid
-        requires place { place < 16 }
-        requires due { due_at self.old.starts self.old.log.past place ≡ due.Write c }
-        requires open_ { IsOpen self.old }
-        requires room { 0 < self.old.log.spare_events }
-        requires data_room { most_read ≤ self.old.log.spare_bytes }
-        ensures called { Called (Does L.effect L.shown) self.old place result self.new }
-    {
-        laws::short_is_few();
-        laws::starts_are();
-        laws::fits_agrees();
-        let (first, _) = self.chip.offer(place / 2);
-        let what = answers::written(self.links.write(c, first));
-        settle(&mut self.chip, &mut self.history, place / 2, what);
-        self.calls += 1;
-        answers::did(place, &what)
-    }
-
-    /// Sends the datagram in flight.
-    pub(crate) fn send_step(&mut self, place: u8, c: ConnId, port: u16, to: Addr) -> LinkDid
-        requires place { place < 16 }
-        requires due { due_at self.old.starts self.old.log.past place ≡ due.SendTo c port to }
+        requires due { due_at self.old.starts self.old.log.past place ≡ call }
+        requires plain { IsPlain call }
         requires open_ { IsOpen self.old }
         requires room { 0 < self.old.log.spare_events }
         requires data_room { most_read ≤ self.old.log.spare_bytes }
@@ -152,8 +63,7 @@ impl<L: Links> Shared<L> {
         laws::starts_are();
         laws::fits_agrees();
         let (head, tail) = self.chip.offer(place / 2);
-        let flight = head.len() + tail.len();
-        let what = answers::sent(self.links.send_to(c, port, to, head, tail), flight as u32);
+        let what = make(&mut self.links, call, head, tail);
         settle(&mut self.chip, &mut self.history, place / 2, what);
         self.calls += 1;
         answers::did(place, &what)

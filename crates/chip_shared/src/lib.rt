@@ -7,6 +7,7 @@
 mod answers;
 mod calls;
 pub mod closing;
+mod making;
 mod reads;
 pub mod shared;
 mod steps;

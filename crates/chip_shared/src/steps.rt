@@ -77,12 +77,12 @@ impl<L: Links> Shared<L> {
     {
         match self.chip.due(place) {
             Due::Nothing => LinkDid::Idle,
-            Due::Drop(c) => self.drop_step(place, c),
-            Due::Connect(c, to) => self.connect_step(place, c, to),
-            Due::Write(c) => self.write_step(place, c),
-            Due::SendTo(c, port, to) => self.send_step(place, c, port, to),
-            Due::Shut(c) => self.shut_step(place, c),
-            Due::Accept(c, port) => self.accept_step(place, c, port),
+            Due::Drop(c) => self.plain_step(place, Due::Drop(c)),
+            Due::Connect(c, to) => self.plain_step(place, Due::Connect(c, to)),
+            Due::Write(c) => self.plain_step(place, Due::Write(c)),
+            Due::SendTo(c, port, to) => self.plain_step(place, Due::SendTo(c, port, to)),
+            Due::Shut(c) => self.plain_step(place, Due::Shut(c)),
+            Due::Accept(c, port) => self.plain_step(place, Due::Accept(c, port)),
             Due::Read(c) => self.read_step(place, c),
             Due::ReadAway(c) => self.read_away_step(place, c),
             Due::RecvFrom(c, port) => self.receive_step(place, c, port),
