@@ -16,8 +16,8 @@ use Rattle.chip_sheet.specs.Windows.{rx_free}
 use Rattle.chip_sheet.specs.LinkCalls.{fits}
 use Rattle.chip_sheet.specs.Connections.{sent_in_all, taken_in_all, got_in_all}
 use Rattle.chip_sheet.specs.Legal.{Legal}
-use Rattle.chip_counts.proofs.OverLives.{no_send}
-use Rattle.chip_counts.proofs.Growing.{by_send, sent_stays, taken_by_link, taken_other_link, taken_bus, got_by_link, got_other_link, got_bus}
+use Rattle.chip_steps.proofs.OverLives.{no_send}
+use Rattle.chip_steps.proofs.Growing.{by_send, sent_stays, taken_by_link, taken_other_link, taken_bus, got_by_link, got_other_link, got_bus}
 use Rattle.chip_parts.specs.Passing.{passed}
 use Rattle.chip_core.specs.declared.counts.Counts.{Counts}
 use Rattle.chip_core.specs.Counting.{IsCounted, AllCounted, with_sent, with_link}

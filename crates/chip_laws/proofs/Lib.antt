@@ -3,3 +3,8 @@ mod IdleAnswer
 mod LegalPlaces
 mod SentStands
 mod MadeKept
+mod LegalBefore
+mod Unread
+mod ReadBack
+mod Datagrams
+mod Written

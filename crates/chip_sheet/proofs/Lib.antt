@@ -1,5 +1,4 @@
 pub mod FrameLaws
-mod LegalPlaces
 pub mod SentLaws
 pub mod StopRows
 pub mod Within
@@ -8,7 +7,6 @@ pub mod Places
 pub mod SizeLaws
 pub mod LifeSteps
 pub mod FitLaws
-pub mod ReadBack
 pub mod Quiet
 pub mod BitSums
 pub mod InterruptBits

@@ -1,37 +1,32 @@
--- A SEND that fits goes through; what is in flight is due; a byte written to a TX buffer stands there.
-use Rattle.std.proofs.Common.{◌≡◌, ◌≤◌, ◌<◌, ℕ, ◌+◌, ◌-◌, ◌*◌, ◌/◌, ◌%◌, zero, suc, Bool, true, false, not, ◌&&◌, ◌||◌, cond, eqb, ltb, leb, List, [], ◌∷◌, ◌++◌, length, Option, None, Some, inl, inr, refl, sym, ap, ◌∙◌, subst, arith, ◌⊎◌}
-use Rattle.std.proofs.lemmas.Bool.{cond-true, cond-false, and_left, and_right, ne_eqb, eq-eqb, false_from_ne_true, cases_Bool, eqb-true}
+-- A SEND that fits goes through; what is in flight is due.
+use Rattle.std.proofs.Common.{◌≡◌, ◌≤◌, ◌<◌, ℕ, ◌+◌, ◌-◌, ◌*◌, Bool, true, false, ◌&&◌, cond, eqb, ltb, leb, [], ◌∷◌, ◌++◌, length, Option, None, Some, inl, inr, refl, ap, ◌∙◌, arith, ◌⊎◌}
+use Rattle.std.proofs.lemmas.Bool.{cond-true, and_right, ne_eqb, eq-eqb}
 use Rattle.board_bus.specs.declared.event.BusEvent.{BusEvent}
 use Rattle.board_bus.specs.declared.event.BusAnswer.{BusAnswer}
 use Rattle.chip_sheet.specs.declared.event.Addr.{Addr}
 use Rattle.chip_sheet.specs.declared.event.ConnId.{ConnId}
-use Rattle.chip_sheet.specs.declared.event.Entry.{Entry}
-use Rattle.chip_sheet.specs.declared.event.Entry.TheVariants.{Bus, Link, Rest}
+use Rattle.chip_sheet.specs.declared.event.Entry.TheVariants.{Bus}
 use Rattle.chip_sheet.specs.declared.phase.Access.{Access}
-use Rattle.chip_sheet.specs.declared.phase.Access.TheVariants.{NoAccess, Read, Write}
+use Rattle.chip_sheet.specs.declared.phase.Access.TheVariants.{Write}
 use Rattle.chip_sheet.specs.declared.block.Block.{Block}
 use Rattle.chip_sheet.specs.declared.stop.ChipStop.{ChipStop}
-use Rattle.chip_sheet.specs.declared.stop.ChipStop.TheVariants.{SizeWhileOpen, SendMac, RawEthernet, Multicast, BadBufferSize, SendBusy, SendTooLong, RecvPastEnd}
+use Rattle.chip_sheet.specs.declared.stop.ChipStop.TheVariants.{SendBusy, SendTooLong}
 use Rattle.chip_sheet.specs.declared.socket.Status.{Status}
-use Rattle.chip_sheet.specs.declared.socket.Status.TheVariants.{Closed, Init, Listen, SynSent, Established, FinWait, CloseWait, LastAck, Udp}
+use Rattle.chip_sheet.specs.declared.socket.Status.TheVariants.{SynSent, Established, FinWait, CloseWait, LastAck, Udp}
 use Rattle.chip_sheet.specs.declared.socket.Cause.{Cause}
 use Rattle.chip_sheet.specs.declared.socket.Cause.TheVariants as because
 use Rattle.chip_sheet.specs.declared.socket.Due.{Due}
 use Rattle.chip_sheet.specs.declared.socket.Due.TheVariants as due
 use Rattle.chip_sheet.specs.Past.{Past}
-use Rattle.chip_sheet.specs.Frames.{access, access_of}
-use Rattle.chip_sheet.specs.Blocks.{sockets, registers_of, tx_buffer_of, block_of}
+use Rattle.chip_sheet.specs.Frames.{access}
+use Rattle.chip_sheet.specs.Blocks.{registers_of}
 use Rattle.chip_sheet.specs.Registers.{is_reset}
-use Rattle.chip_sheet.specs.Life.{cause, cause_by, command, protocol, status, lives, old, life, is_udp}
-use Rattle.chip_sheet.specs.Sizes.{tx_sizes, rx_sizes, tx_size, resizes, resizes_block}
-use Rattle.chip_sheet.specs.Streams.{Starts, sent, sent_by, sends, takes_send, range, range_length, taken, got, released, is_open, byte_after, byte_in, tx_byte, last_byte}
-use Rattle.chip_sheet.specs.Windows.{flight, unread, tx_free}
+use Rattle.chip_sheet.specs.Life.{cause_by, command, protocol, status, lives, old, life, is_udp}
+use Rattle.chip_sheet.specs.Streams.{Starts, sent, sent_by, sends, range, range_length, is_open}
+use Rattle.chip_sheet.specs.Windows.{flight, tx_free}
 use Rattle.chip_sheet.specs.LinkCalls.{outgoing, outgoing_in, connection, kept_address, kept_port}
-use Rattle.chip_sheet.specs.Stops.{Writes, block_access, where_it, first, stop_by, stop, refused_command, command_stop, command_facts, reserved_block, pppoe, size_while_open, overwrite_in_flight, any_open, send_busy, send_too_long}
-use Rattle.chip_sheet.specs.Quiet.{writes_to}
+use Rattle.chip_sheet.specs.Stops.{Writes, block_access, where_it, first, stop_by, stop, command_stop, command_facts}
 use Rattle.chip_sheet.proofs.StopRows.{registers_block}
-use Rattle.chip_sheet.proofs.SizeLaws.{size_kept}
-use Rattle.chip_sheet.proofs.ResetRestores.{tx_block}
 
 -- A byte that is written to Sn_CR is the command that it says.
 no_reset_there : (n addr v : ℕ) → is_reset (Write (registers_of n) addr v) ≡ false
@@ -85,13 +80,6 @@ send_adds starts past e a n is takes =
     ∙ ap (λ (b : Bool). cond (b && eqb (lives past n) (lives past n)) (before ++ range starts past n (length before)) before) takes
     ∙ ap (λ (b : Bool). cond b (before ++ range starts past n (length before)) before) (eq-eqb (lives past n) (lives past n) refl)
 
--- Which statuses have windows.
-pub flight_of : (starts : Starts) (past : Past) (n : ℕ) (at : Status) → is_open at ≡ true → status past n ≡ at → flight starts past n ≡ length (sent starts past n (lives past n)) - taken past n (lives past n)
-flight_of starts past n at on h = cond-true (is_open (status past n)) _ 0 (ap is_open h ∙ on)
-
-pub unread_of : (starts : Starts) (past : Past) (n : ℕ) (at : Status) → is_open at ≡ true → status past n ≡ at → unread starts past n ≡ length (got starts past n (lives past n)) - released starts past n (lives past n)
-unread_of starts past n at on h = cond-true (is_open (status past n)) _ 0 (ap is_open h ∙ on)
-
 -- What is in flight is due.
 due_of : (at : Status) (c : ConnId) (to : Addr) (port fl : ℕ) (shut : Bool) → 0 < fl → is_open at ≡ true → (outgoing_in at c to port fl shut ≡ due.Write c) ⊎ (outgoing_in at c to port fl shut ≡ due.SendTo c port to)
 due_of Established c to port fl shut some on = inl (cond-true (ltb 0 fl) (due.Write c) due.Nothing (is_less 0 fl some))
@@ -119,30 +107,3 @@ flight_due starts past n none some =
       | inl write ↦ inl (no_old ∙ write)
       | inr send ↦ inr (no_old ∙ send)
     ]
-
--- A byte written to the TX buffer is read at each address of its place, and no other byte changes.
-no_reset_buffer : (n addr v : ℕ) → is_reset (Write (tx_buffer_of n) addr v) ≡ false
-no_reset_buffer n addr v = ap (λ (b : Bool). b && eqb addr 0x00 && leb 128 v) (ne_eqb (4 * n + 2) 0 (λ e. omega (arith, e)))
-
-same_sizes : (past : Past) (sizes n addr v : ℕ) → resizes past sizes (Write (tx_buffer_of n) addr v) ≡ false
-same_sizes past sizes n addr v = ap (λ (b : Block). resizes_block past sizes b addr v) (tx_block n)
-
-byte_put : (past : Past) (n size addr v at before : ℕ) → byte_after past (Write (tx_buffer_of n) addr v) n size at before ≡ cond (eqb (addr % size) (at % size)) v before
-byte_put past n size addr v at before =
-    let here = eqb (addr % size) (at % size) in
-    ap (λ (b : Bool). cond (b || resizes past tx_sizes (Write (tx_buffer_of n) addr v)) 0 (cond (eqb (tx_buffer_of n) (tx_buffer_of n) && here) v before)) (no_reset_buffer n addr v)
-    ∙ ap (λ (b : Bool). cond b 0 (cond (eqb (tx_buffer_of n) (tx_buffer_of n) && here) v before)) (same_sizes past tx_sizes n addr v)
-    ∙ ap (λ (b : Bool). cond (b && here) v before) (eq-eqb (tx_buffer_of n) (tx_buffer_of n) refl)
-
-byte_in_put : (past : Past) (entry : Entry) (n addr v size at : ℕ) → access_of past entry ≡ Write (tx_buffer_of n) addr v → 0 < size
-    → byte_in (entry ∷ past) n size at ≡ cond (eqb (addr % size) (at % size)) v (byte_in past n size at)
-byte_in_put past entry n addr v zero at is some = absurd (omega (arith, some))
-byte_in_put past entry n addr v (suc most) at is some =
-    ap (λ (made : Access). byte_after past made n (suc most) at (last_byte past n (suc most) at)) is ∙ byte_put past n (suc most) addr v at (last_byte past n (suc most) at)
-
-pub byte_written : (past : Past) (entry : Entry) (n addr v at : ℕ) → access_of past entry ≡ Write (tx_buffer_of n) addr v → 0 < tx_size past n
-    → tx_byte (entry ∷ past) n at ≡ cond (eqb (addr % tx_size past n) (at % tx_size past n)) v (tx_byte past n at)
-byte_written past entry n addr v at is some =
-    ap (λ (size : ℕ). byte_in (entry ∷ past) n size at)
-    (size_kept past entry tx_sizes n (ap is_reset is ∙ no_reset_buffer n addr v) (ap (resizes past tx_sizes) is ∙ same_sizes past tx_sizes n addr v))
-    ∙ byte_in_put past entry n addr v (tx_size past n) at is some

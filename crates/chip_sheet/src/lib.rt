@@ -6,8 +6,6 @@
 
 pub mod block;
 pub mod event;
-pub mod laws;
 pub mod phase;
 pub mod socket;
-pub mod socket_laws;
 pub mod stop;

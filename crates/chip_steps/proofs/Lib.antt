@@ -8,3 +8,5 @@ pub mod Elsewhere
 pub mod StopSteps
 pub mod BitSteps
 pub mod ReadSteps
+pub mod OverLives
+pub mod Growing

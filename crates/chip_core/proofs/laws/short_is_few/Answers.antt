@@ -1,7 +1,7 @@
 use Rattle.std.proofs.Common.{ap, arith}
 use Rattle.chip_sheet.specs.Life.{Life}
 use Rattle.chip_sheet.proofs.LivesLaws.{lives_few}
-use Rattle.chip_counts.proofs.OverLives.{sent_few, got_few, taken_few}
+use Rattle.chip_steps.proofs.OverLives.{sent_few, got_few, taken_few}
 use Rattle.chip_core.proofs.laws.short_is_few.Goals as goal
 
 pub returns : goal.returns

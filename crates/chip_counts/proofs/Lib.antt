@@ -1,2 +1,0 @@
-pub mod OverLives
-pub mod Growing

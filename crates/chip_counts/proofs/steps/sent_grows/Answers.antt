@@ -1,5 +1,0 @@
-use Rattle.chip_counts.proofs.Growing.{by_send, sent_stays}
-use Rattle.chip_counts.proofs.steps.sent_grows.Goals as goal
-
-pub returns : goal.returns
-returns c = record { by_send = by_send; stays = sent_stays }

@@ -1,5 +1,0 @@
-use Rattle.chip_counts.proofs.Growing.{taken_by_link, taken_other_link, taken_bus}
-use Rattle.chip_counts.proofs.steps.taken_grows.Goals as goal
-
-pub returns : goal.returns
-returns c = record { by_link = taken_by_link; other_link = taken_other_link; bus = taken_bus }

@@ -1,5 +1,0 @@
-use Rattle.chip_sheet.proofs.MadeLaws.{open_made, udp_not_made}
-use Rattle.chip_sheet.proofs.socket_laws.open_is_made.Goals as goal
-
-pub returns : goal.returns
-returns c = record { tcp = open_made; udp = udp_not_made }

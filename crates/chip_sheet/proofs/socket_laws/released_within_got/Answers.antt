@@ -1,5 +1,0 @@
-use Rattle.chip_sheet.proofs.Within.{released_within}
-use Rattle.chip_sheet.proofs.socket_laws.released_within_got.Goals as goal
-
-pub returns : goal.returns
-returns c = released_within

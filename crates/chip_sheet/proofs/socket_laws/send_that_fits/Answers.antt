@@ -1,5 +1,0 @@
-use Rattle.chip_sheet.proofs.SendLaws.{send_goes, send_adds}
-use Rattle.chip_sheet.proofs.socket_laws.send_that_fits.Goals as goal
-
-pub returns : goal.returns
-returns c = record { goes = send_goes; adds = send_adds }

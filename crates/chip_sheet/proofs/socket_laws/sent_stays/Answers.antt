@@ -1,5 +1,0 @@
-use Rattle.chip_sheet.proofs.SentLaws.{sent_front}
-use Rattle.chip_sheet.proofs.socket_laws.sent_stays.Goals as goal
-
-pub returns : goal.returns
-returns c = sent_front
