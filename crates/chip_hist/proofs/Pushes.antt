@@ -26,6 +26,7 @@ pub record Pushed (bytes : List ℕ) (cells : List Cell) (count weight limit : �
 
 pub rested : (bytes : List ℕ) (cells : List Cell) (count count' weight limit : ℕ) → IsSound bytes cells count weight limit → count ≤ MOST_EVENTS + MARGIN → count' ≡ count + 1
     → Pushed bytes cells count' weight limit Rest (past_of bytes cells count)
+unfolding weight_of entry_weight
 rested bytes cells count count' weight limit sound few next =
     let is : past_of bytes cells (suc count) ≡ Rest ∷ past_of bytes cells count =
     ap (λ (r : Option Kept). entry_found bytes r ∷ past_of bytes cells count) (kept_at-none cells count (all_differ cells count sound.below)) in
@@ -48,6 +49,7 @@ pub pushed : (bytes more : List ℕ) (cells : List Cell) (count weight limit : �
     → IsSound bytes cells count weight limit → count ≤ MOST_EVENTS + MARGIN
     → IsWithin (length (bytes ++ more)) what → entry_kept (bytes ++ more) what ≡ entry
     → Pushed (bytes ++ more) (cells ++ record { place = count; kept = what } ∷ []) (suc count) (entry_weight entry + weight) limit entry (past_of bytes cells count)
+unfolding weight_of entry_weight
 pushed bytes more cells count weight limit what entry sound few within stands =
     let cell : Cell = record { place = count; kept = what } in
     let is : past_of (bytes ++ more) (cells ++ cell ∷ []) (suc count) ≡ entry ∷ past_of bytes cells count =
@@ -118,6 +120,7 @@ link_within bytes n link.Dropped = tt
 pub bus_pushed : (bytes : List ℕ) (cells cells' : List Cell) (count weight limit : ℕ) (event : BusEvent) (answer : BusAnswer)
     → IsSound bytes cells count weight limit → count ≤ MOST_EVENTS + MARGIN → cells' ≡ cells ++ record { place = count; kept = kept.Bus event answer } ∷ []
     → Pushed bytes cells' (count + 1) (weight + 1) limit (Bus event answer) (past_of bytes cells count)
+unfolding entry_weight
 bus_pushed bytes cells cells' count weight limit event answer sound few put =
     pushed_by bytes [] bytes cells cells' count (count + 1) weight (weight + 1) limit (kept.Bus event answer) (Bus event answer) sound few tt refl (sym (append-nil bytes)) put refl (omega arith)
 
@@ -127,6 +130,7 @@ pub link_pushed : (bytes more bytes' : List ℕ) (cells cells' : List Cell) (cou
     → more ≡ link_data what → bytes' ≡ bytes ++ more → from ≡ length bytes → stored ≡ kept_link n what from (from + length more)
     → cells' ≡ cells ++ record { place = count; kept = stored } ∷ [] → units ≡ begun (length more)
     → Pushed bytes' cells' (count + 1) (weight + (1 + units)) limit (Link n what) (past_of bytes cells count)
+unfolding entry_weight
 link_pushed bytes more bytes' cells cells' count weight limit n from units what stored sound few its_data put_bytes at is_stored put weighs =
     let where_it_stands : kept_link n what (length bytes) (length bytes + length (link_data what)) ≡ stored =
     ap₂ (λ (f : ℕ) (d : List ℕ). kept_link n what f (f + length d)) (sym at) (sym its_data) ∙ sym is_stored in

@@ -3,7 +3,7 @@ ghost use Rattle.std.specs.Prelude.{◌≡◌, ◌+◌, ◌*◌, ◌^◌, ◌<�
 ghost use Rattle.chip_sheet.specs.Past.{entry_of};
 ghost use Rattle.chip_sheet.specs.declared.event.Entry.TheVariants.{Rest};
 ghost use Rattle.chip_hist.specs.declared.limits.TheConstants.{HIGHEST_LIMIT, MOST_EVENTS, MARGIN, BYTES_A_UNIT};
-ghost use Rattle.chip_hist.specs.Log.{begun, entry_data, is_full, weight_of};
+ghost use Rattle.chip_hist.specs.Log.{begun, entry_data, is_full, weight_of, IsLight};
 
 use crate::kept::{Cell, Kept, data_of, event_of, find, link_kept};
 use crate::limits::{BYTES_A_UNIT, MOST_EVENTS};
@@ -111,7 +111,7 @@ impl History {
     pub fn push(&mut self, event: Event<'_>)
         requires room { 0 < self.old.spare_events }
         requires data_room { length (entry_data (entry_of event)) ≤ self.old.spare_bytes }
-        requires light { weight_of self.old.past ≤ self.old.limit + MARGIN }
+        requires light { IsLight self.old }
         requires short { length self.old.past ≤ MOST_EVENTS + MARGIN }
         ensures past { self.new.past ≡ entry_of event.entry ∷ self.old.past }
         ensures events { self.old.spare_events ≤ self.new.spare_events + 1 }
