@@ -7,7 +7,7 @@ use Rattle.chip_sheet.specs.LinkCalls.{connection, kept_address}
 use Rattle.chip_sheet.specs.Sizes.{tx_sizes}
 use Rattle.chip_sheet.specs.Windows.{flight, room_length}
 use Rattle.chip_core.specs.Chip.{starts_of}
-use Rattle.chip_counts.proofs.OverLives.{size_within}
+use Rattle.chip_steps.proofs.OverLives.{size_within}
 use Rattle.chip_shared.specs.Causes.{Does}
 use Rattle.chip_shared.specs.Entries.{entry_for}
 use Rattle.chip_shared.proofs.DueFacts.{Says, says}

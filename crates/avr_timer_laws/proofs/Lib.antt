@@ -1,0 +1,3 @@
+mod Ones
+mod Rows
+mod Singles
