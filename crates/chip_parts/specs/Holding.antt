@@ -30,6 +30,10 @@ pub record Shows (starts : Starts) (parts : Parts) (past : Past) : Type 0 where
 abbrev pub OthersUntouched : Past → Entry → ℕ → Type 0
 OthersUntouched past entry sn = (m : ℕ) → m ≢ sn → Untouched past entry m
 
+-- It touches none of them.
+abbrev pub AllUntouched : Past → Entry → Type 0
+AllUntouched past entry = (m : ℕ) → Untouched past entry m
+
 -- The parts are those that this past leaves, where positions start so.
 pub record Holds (starts : Starts) (parts : Parts) (past : Past) : Type 0 where
   pub tx_start : parts.tx_start ≡ starts.tx

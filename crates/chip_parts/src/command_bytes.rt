@@ -1,16 +1,9 @@
 //! The whole of a write to Sn_CR.
-ghost use Rattle.std.specs.Prelude.{◌≡◌, ◌<◌, ◌^◌, slice_index_or, IfOk, IfErr, Some, None, ◌∷◌};
-ghost use Rattle.board_bus.specs.declared.event.BusEvent.{BusEvent};
-ghost use Rattle.board_bus.specs.declared.event.BusAnswer.{BusAnswer};
+ghost use Rattle.std.specs.Prelude.{◌≡◌, ◌<◌, ◌^◌, slice_index_or, IfOk, IfErr, None, ◌∷◌};
 ghost use Rattle.chip_sheet.specs.declared.event.Entry.TheVariants.{Bus};
-ghost use Rattle.chip_sheet.specs.declared.phase.Access.TheVariants.{Write};
-ghost use Rattle.chip_sheet.specs.Past.{Past};
-ghost use Rattle.chip_sheet.specs.Frames.{access};
 ghost use Rattle.chip_sheet.specs.Names.{sn_cr};
 ghost use Rattle.chip_sheet.specs.Blocks.{registers_of};
 ghost use Rattle.chip_sheet.specs.Life.{cause};
-ghost use Rattle.chip_sheet.specs.Streams.{Starts};
-ghost use Rattle.chip_sheet.specs.Legal.{Legal};
 ghost use Rattle.chip_sheet.specs.Stops.{stop};
 ghost use Rattle.sock_cmd.specs.declared.life.Life.{Life};
 ghost use Rattle.sock_cmd.specs.Lives.{life_of};
@@ -21,6 +14,7 @@ use chip_sheet::stop::ChipStop;
 
 impl Parts {
     ghost use Rattle.chip_parts.specs.Holding.{Holds};
+    ghost use Rattle.chip_parts.specs.Writing.{AtLegalByte, RefusesLegal};
     ghost use Rattle.chip_parts.specs.Passing.{passed};
 
     /// Takes a byte written to Sn_CR, of any value. Answers how many bytes were passed to SEND, at most 16,384; 0 of any other command.
@@ -31,10 +25,9 @@ impl Parts {
     pub(crate) fn write_command(&mut self, sn: u8, v: u8) -> Result<u32, ChipStop>
         requires sn { sn < 8 }
         requires few { (other : Life) → (life_of (slice_index_or self.old.lives sn other)).lives < 2 ^ 60 }
-        ensures ok { IfOk result (λ k. (starts : Starts) (past : Past) (e : BusEvent) (a : BusAnswer) → Legal starts past → Holds starts self.old past → access past e ≡ Write (registers_of sn) sn_cr v
-            → (stop starts past e ≡ None) × (k ≡ passed starts past sn (cause past sn (Bus e a))) × Holds starts self.new (Bus e a ∷ past)) }
-        ensures err { IfErr result (λ s. (self.new ≡ self.old) × ((starts : Starts) (past : Past) (e : BusEvent) → Legal starts past → Holds starts self.old past
-            → access past e ≡ Write (registers_of sn) sn_cr v → stop starts past e ≡ Some s)) }
+        ensures ok { IfOk result (λ k. AtLegalByte self.old (registers_of sn) sn_cr v (λ starts past e a.
+            (stop starts past e ≡ None) × (k ≡ passed starts past sn (cause past sn (Bus e a))) × Holds starts self.new (Bus e a ∷ past))) }
+        ensures err { IfErr result (λ s. (self.new ≡ self.old) × RefusesLegal self.old (registers_of sn) sn_cr v s) }
     {
         if v == SEND {
             return self.send(sn);

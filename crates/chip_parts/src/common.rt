@@ -1,17 +1,9 @@
 //! Writes to the common register block: plain ones, the software reset, and PPPoE, which stops.
-ghost use Rattle.std.specs.Prelude.{◌≡◌, ◌<◌, ◌∷◌, slice_index_or, replicate, ℕ, IfErr, OnOk, Some, None};
-ghost use Rattle.board_bus.specs.declared.event.BusEvent.{BusEvent};
-ghost use Rattle.board_bus.specs.declared.event.BusAnswer.{BusAnswer};
-ghost use Rattle.chip_sheet.specs.declared.event.Entry.TheVariants.{Bus};
+ghost use Rattle.std.specs.Prelude.{◌≡◌, ◌<◌, slice_index_or, replicate, ℕ, IfErr, OnOk};
 ghost use Rattle.chip_sheet.specs.declared.event.Addr.{Addr};
-ghost use Rattle.chip_sheet.specs.declared.phase.Access.TheVariants.{Write};
 ghost use Rattle.chip_sheet.specs.declared.socket.Cause.TheVariants as because;
-ghost use Rattle.chip_sheet.specs.Past.{Past};
-ghost use Rattle.chip_sheet.specs.Frames.{access};
-ghost use Rattle.chip_sheet.specs.Streams.{Starts};
 ghost use Rattle.chip_sheet.specs.Sending as sending;
 ghost use Rattle.chip_sheet.specs.Receiving as receiving;
-ghost use Rattle.chip_sheet.specs.Stops.{stop};
 ghost use Rattle.ring_mem.specs.Buffers.{TxHolds, RxHolds, tx_kilobytes, rx_kilobytes};
 ghost use Rattle.sock_cmd.specs.declared.life.Life.{Life};
 ghost use Rattle.sock_cmd.specs.Lives.{Happened};
@@ -35,7 +27,7 @@ fn reset_lives(lives: &mut [Life; 8])
 }
 
 impl Parts {
-    ghost use Rattle.chip_parts.specs.Holding.{Holds};
+    ghost use Rattle.chip_parts.specs.Writing.{AtByte, Goes, Refuses};
 
     /// Makes of all but the common registers what a reset makes of them: the registers and the buffers are as after power-on, and each
     /// socket is closed.
@@ -59,10 +51,8 @@ impl Parts {
     ///
     /// `Pppoe` exactly where MR is written with bit 7 clear and bit 3 set; nothing has then changed.
     pub(crate) fn write_common(&mut self, addr: u16, v: u8) -> Result<(), ChipStop>
-        ensures ok { OnOk result ((starts : Starts) (past : Past) (e : BusEvent) (a : BusAnswer) → Holds starts self.old past → access past e ≡ Write 0 addr v
-            → (stop starts past e ≡ None) × Holds starts self.new (Bus e a ∷ past)) }
-        ensures err { IfErr result (λ s. (self.new ≡ self.old) × ((starts : Starts) (past : Past) (e : BusEvent) → Holds starts self.old past → access past e ≡ Write 0 addr v
-            → stop starts past e ≡ Some s)) }
+        ensures ok { OnOk result (AtByte self.old 0 addr v (Goes self.new)) }
+        ensures err { IfErr result (λ s. (self.new ≡ self.old) × Refuses self.old 0 addr v s) }
     {
         match self.common.write(addr, v) {
             Wrote::Plain => Ok(()),

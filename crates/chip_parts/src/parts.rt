@@ -1,9 +1,6 @@
 //! The parts of the chip that its accesses and its link events reach.
-ghost use Rattle.std.specs.Prelude.{◌≡◌, ◌≢◌, ◌<◌, ◌^◌, slice_index_or, ℕ, IfOk, IfErr, OnOk, Some, None, [], ◌∷◌, false};
-ghost use Rattle.board_bus.specs.declared.event.BusEvent.{BusEvent};
-ghost use Rattle.board_bus.specs.declared.event.BusAnswer.{BusAnswer};
+ghost use Rattle.std.specs.Prelude.{◌≡◌, ◌≢◌, ◌<◌, ◌^◌, slice_index_or, IfOk, IfErr, OnOk, Some, [], ◌∷◌, false};
 ghost use Rattle.chip_sheet.specs.declared.event.Entry.TheVariants.{Bus};
-ghost use Rattle.chip_sheet.specs.declared.phase.Access.TheVariants.{Write};
 ghost use Rattle.chip_sheet.specs.Past.{Past};
 ghost use Rattle.chip_sheet.specs.Frames.{access};
 ghost use Rattle.chip_sheet.specs.Names.{sn_cr, send_command, recv_command};
@@ -19,7 +16,7 @@ ghost use Rattle.chip_parts.specs.Settling.{settled, got_settled};
 ghost use Rattle.chip_sheet.specs.Stops.{stop};
 ghost use Rattle.chip_sheet.specs.Answers as sheet;
 ghost use Rattle.chip_sheet.specs.Blocks.{block_of, registers_of, tx_buffer_of};
-ghost use Rattle.chip_sheet.specs.Interrupts.{interrupt_low, interrupts_by};
+ghost use Rattle.chip_sheet.specs.Interrupts.{interrupt_low};
 ghost use Rattle.chip_sheet.specs.SocketBlock.{socket_register};
 
 use chip_sheet::stop::ChipStop;
@@ -85,7 +82,8 @@ pub struct Parts {
 }
 
 impl Parts {
-    ghost use Rattle.chip_parts.specs.Holding.{Holds, Shows, OthersUntouched, Found};
+    ghost use Rattle.chip_parts.specs.Holding.{Holds, Found};
+    ghost use Rattle.chip_parts.specs.Writing.{AtByte, AtLegalByte, Goes, Refuses, RefusesLegal, StepsRegisters};
 
     /// The parts after power-on.
     ///
@@ -154,8 +152,7 @@ impl Parts {
     /// Writes a byte to the registers of a socket, raises these bits of Sn_IR, and renews the socket's bit of SIR.
     pub(crate) fn step_registers(&mut self, sn: u8, addr: u16, v: u8, bits: u8)
         requires { sn < 8 }
-        ensures shows { (starts : Starts) (past : Past) (e : BusEvent) (a : BusAnswer) → Shows starts self.old past → access past e ≡ Write (registers_of sn) addr v
-            → bits ≡ interrupts_by starts past sn (Bus e a) → OthersUntouched past (Bus e a) sn → Shows starts self.new (Bus e a ∷ past) }
+        ensures shows { StepsRegisters self.old sn addr v bits self.new }
         ensures same { self.new ≡ record self.old { registers = self.new.registers; sir = self.new.sir } }
     {
         let registers = &mut self.registers[sn as usize];
@@ -169,8 +166,8 @@ impl Parts {
     /// Writes a byte of the register block of a socket that is neither a command nor another size of a buffer.
     pub(crate) fn write_plain(&mut self, sn: u8, addr: u16, v: u8)
         requires { sn < 8 }
-        ensures { (starts : Starts) (past : Past) (e : BusEvent) (a : BusAnswer) → Holds starts self.old past → access past e ≡ Write (registers_of sn) addr v → addr ≢ sn_cr
-            → resizes past tx_sizes (access past e) ≡ false → resizes past rx_sizes (access past e) ≡ false → Holds starts self.new (Bus e a ∷ past) }
+        ensures { AtByte self.old (registers_of sn) addr v (λ starts past e a. addr ≢ sn_cr
+            → resizes past tx_sizes (access past e) ≡ false → resizes past rx_sizes (access past e) ≡ false → Holds starts self.new (Bus e a ∷ past)) }
     {
         self.rings.set_pointer(sn, addr, v);
         self.step_registers(sn, addr, v, 0);
@@ -183,10 +180,8 @@ impl Parts {
     /// `OverwriteInFlight` exactly where the place holds a byte in flight; nothing has then changed.
     pub(crate) fn write_tx(&mut self, sn: u8, addr: u16, v: u8) -> Result<(), ChipStop>
         requires { sn < 8 }
-        ensures ok { OnOk result ((starts : Starts) (past : Past) (e : BusEvent) (a : BusAnswer) → Legal starts past → Holds starts self.old past → access past e ≡ Write (tx_buffer_of sn) addr v
-            → (stop starts past e ≡ None) × Holds starts self.new (Bus e a ∷ past)) }
-        ensures err { IfErr result (λ s. (self.new ≡ self.old) × ((starts : Starts) (past : Past) (e : BusEvent) → Legal starts past → Holds starts self.old past
-            → access past e ≡ Write (tx_buffer_of sn) addr v → stop starts past e ≡ Some s)) }
+        ensures ok { OnOk result (AtLegalByte self.old (tx_buffer_of sn) addr v (Goes self.new)) }
+        ensures err { IfErr result (λ s. (self.new ≡ self.old) × RefusesLegal self.old (tx_buffer_of sn) addr v s) }
     {
         self.rings.tx_write(sn, addr, v)
     }
@@ -216,10 +211,8 @@ impl Parts {
         requires no_send { v ≢ send_command }
         requires no_recv { v ≢ recv_command }
         requires few { (other : Life) → (life_of (slice_index_or self.old.lives sn other)).lives < 2 ^ 60 }
-        ensures ok { OnOk result ((starts : Starts) (past : Past) (e : BusEvent) (a : BusAnswer) → Holds starts self.old past → access past e ≡ Write (registers_of sn) sn_cr v
-            → (stop starts past e ≡ None) × Holds starts self.new (Bus e a ∷ past)) }
-        ensures err { IfErr result (λ s. (self.new ≡ self.old) × ((starts : Starts) (past : Past) (e : BusEvent) → Holds starts self.old past
-            → access past e ≡ Write (registers_of sn) sn_cr v → stop starts past e ≡ Some s)) }
+        ensures ok { OnOk result (AtByte self.old (registers_of sn) sn_cr v (Goes self.new)) }
+        ensures err { IfErr result (λ s. (self.new ≡ self.old) × Refuses self.old (registers_of sn) sn_cr v s) }
     {
         let at = self.command_at(sn);
         match self.lives[sn as usize].command(v, at) {

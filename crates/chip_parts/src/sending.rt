@@ -1,5 +1,5 @@
 //! SEND and RECV, the commands that need the buffers.
-ghost use Rattle.std.specs.Prelude.{◌≡◌, ◌≢◌, ◌<◌, ◌^◌, ◌&&◌, nat_lt, slice_index_or, ℕ, Bool, IfOk, IfErr, OnOk, Some, None, ◌∷◌, if◌then◌else◌};
+ghost use Rattle.std.specs.Prelude.{◌≡◌, ◌≢◌, ◌<◌, ◌^◌, ◌&&◌, nat_lt, slice_index_or, ℕ, Bool, IfOk, IfErr, OnOk, None, ◌∷◌, if◌then◌else◌};
 ghost use Rattle.board_bus.specs.declared.event.BusEvent.{BusEvent};
 ghost use Rattle.board_bus.specs.declared.event.BusAnswer.{BusAnswer};
 ghost use Rattle.chip_sheet.specs.declared.event.Entry.TheVariants.{Bus};
@@ -13,11 +13,9 @@ ghost use Rattle.chip_sheet.specs.Blocks.{registers_of};
 ghost use Rattle.chip_sheet.specs.Life as sheet;
 ghost use Rattle.chip_sheet.specs.Streams.{Starts};
 ghost use Rattle.chip_sheet.specs.Windows.{flight};
-ghost use Rattle.chip_sheet.specs.Interrupts.{interrupts_by};
-ghost use Rattle.chip_sheet.specs.Legal.{Legal};
 ghost use Rattle.chip_sheet.specs.Stops.{stop};
 ghost use Rattle.sock_cmd.specs.declared.life.Life.{Life};
-ghost use Rattle.sock_cmd.specs.Lives.{life_of, IsAfter};
+ghost use Rattle.sock_cmd.specs.Lives.{life_of};
 ghost use Rattle.sock_cmd.specs.LifeStops.{life_stop};
 
 use crate::parts::{COMMAND, Parts};
@@ -42,7 +40,8 @@ fn bit_where(raised: bool, bit: u8) -> u8
 }
 
 impl Parts {
-    ghost use Rattle.chip_parts.specs.Holding.{Holds, Shows, OthersUntouched, Found};
+    ghost use Rattle.chip_parts.specs.Holding.{Holds, Found};
+    ghost use Rattle.chip_parts.specs.Writing.{AtLegalByte, Goes, RefusesLegal, StepsRegisters, HasLife};
     ghost use Rattle.chip_parts.specs.Passing.{passed};
 
     /// Takes a command that has no stop but those of the buffers, which have taken it before: in the life and in the registers of a
@@ -51,11 +50,10 @@ impl Parts {
         requires sn { sn < 8 }
         requires no_stop { (n mode : ℕ) (status : Status) (valid : Bool) → life_stop n status mode valid v ≡ None }
         requires few { (other : Life) → (life_of (slice_index_or self.old.lives sn other)).lives < 2 ^ 60 }
-        ensures life { (past : Past) (e : BusEvent) (a : BusAnswer) → ((other : Life) → IsAfter (slice_index_or self.old.lives sn other) past sn) → Found past sn at
-            → access past e ≡ Write (registers_of sn) sn_cr v → (other : Life) → IsAfter (slice_index_or self.new.lives sn other) (Bus e a ∷ past) sn }
+        ensures life { (past : Past) (e : BusEvent) (a : BusAnswer) → HasLife self.old sn past → Found past sn at → access past e ≡ Write (registers_of sn) sn_cr v
+            → HasLife self.new sn (Bus e a ∷ past) }
         ensures others { (m : ℕ) (other : Life) → m ≢ sn → slice_index_or self.new.lives m other ≡ slice_index_or self.old.lives m other }
-        ensures shows { (starts : Starts) (past : Past) (e : BusEvent) (a : BusAnswer) → Shows starts self.old past → access past e ≡ Write (registers_of sn) sn_cr v
-            → bits ≡ interrupts_by starts past sn (Bus e a) → OthersUntouched past (Bus e a) sn → Shows starts self.new (Bus e a ∷ past) }
+        ensures shows { StepsRegisters self.old sn sn_cr v bits self.new }
         ensures same { self.new ≡ record self.old { lives = self.new.lives; registers = self.new.registers; sir = self.new.sir } }
     {
         let _came_to = self.lives[sn as usize].command(v, at);
@@ -79,10 +77,9 @@ impl Parts {
     pub(crate) fn send(&mut self, sn: u8) -> Result<u32, ChipStop>
         requires sn { sn < 8 }
         requires few { (other : Life) → (life_of (slice_index_or self.old.lives sn other)).lives < 2 ^ 60 }
-        ensures ok { IfOk result (λ k. (starts : Starts) (past : Past) (e : BusEvent) (a : BusAnswer) → Legal starts past → Holds starts self.old past → access past e ≡ Write (registers_of sn) sn_cr send_command
-            → (stop starts past e ≡ None) × (k ≡ passed starts past sn because.Send) × Holds starts self.new (Bus e a ∷ past)) }
-        ensures err { IfErr result (λ s. (self.new ≡ self.old) × ((starts : Starts) (past : Past) (e : BusEvent) → Legal starts past → Holds starts self.old past
-            → access past e ≡ Write (registers_of sn) sn_cr send_command → stop starts past e ≡ Some s)) }
+        ensures ok { IfOk result (λ k. AtLegalByte self.old (registers_of sn) sn_cr send_command (λ starts past e a.
+            (stop starts past e ≡ None) × (k ≡ passed starts past sn because.Send) × Holds starts self.new (Bus e a ∷ past))) }
+        ensures err { IfErr result (λ s. (self.new ≡ self.old) × RefusesLegal self.old (registers_of sn) sn_cr send_command s) }
     {
         let at = self.command_at(sn);
         let takes = self.lives[sn as usize].sends();
@@ -112,10 +109,8 @@ impl Parts {
     pub(crate) fn recv(&mut self, sn: u8) -> Result<(), ChipStop>
         requires sn { sn < 8 }
         requires few { (other : Life) → (life_of (slice_index_or self.old.lives sn other)).lives < 2 ^ 60 }
-        ensures ok { OnOk result ((starts : Starts) (past : Past) (e : BusEvent) (a : BusAnswer) → Legal starts past → Holds starts self.old past → access past e ≡ Write (registers_of sn) sn_cr recv_command
-            → (stop starts past e ≡ None) × Holds starts self.new (Bus e a ∷ past)) }
-        ensures err { IfErr result (λ s. (self.new ≡ self.old) × ((starts : Starts) (past : Past) (e : BusEvent) → Legal starts past → Holds starts self.old past
-            → access past e ≡ Write (registers_of sn) sn_cr recv_command → stop starts past e ≡ Some s)) }
+        ensures ok { OnOk result (AtLegalByte self.old (registers_of sn) sn_cr recv_command (Goes self.new)) }
+        ensures err { IfErr result (λ s. (self.new ≡ self.old) × RefusesLegal self.old (registers_of sn) sn_cr recv_command s) }
     {
         let at = self.command_at(sn);
         let open = self.lives[sn as usize].is_open();

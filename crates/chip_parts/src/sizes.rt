@@ -1,8 +1,7 @@
 //! Writes to the register block of a socket that are no command: plain ones, and those that change the size of a buffer.
 ghost use Rattle.std.specs.List.{list_any};
-ghost use Rattle.std.specs.Prelude.{◌≡◌, ◌≢◌, ◌<◌, ◌∷◌, ◌||◌, not, slice_set, ℕ, IfErr, OnOk, Some, None, true, if◌then◌else◌};
+ghost use Rattle.std.specs.Prelude.{◌≡◌, ◌≢◌, ◌<◌, ◌∷◌, not, slice_set, ℕ, IfErr, OnOk, true, if◌then◌else◌};
 ghost use Rattle.board_bus.specs.declared.event.BusEvent.{BusEvent};
-ghost use Rattle.board_bus.specs.declared.event.BusAnswer.{BusAnswer};
 ghost use Rattle.chip_sheet.specs.declared.event.Entry.TheVariants.{Bus};
 ghost use Rattle.chip_sheet.specs.declared.phase.Access.TheVariants.{Write};
 ghost use Rattle.chip_sheet.specs.Past.{Past};
@@ -10,9 +9,7 @@ ghost use Rattle.chip_sheet.specs.Frames.{access};
 ghost use Rattle.chip_sheet.specs.Blocks.{registers_of};
 ghost use Rattle.chip_sheet.specs.Life.{is_closed};
 ghost use Rattle.chip_sheet.specs.Names.{sn_cr};
-ghost use Rattle.chip_sheet.specs.Sizes.{tx_sizes, rx_sizes, resizes};
 ghost use Rattle.chip_sheet.specs.Streams.{Starts};
-ghost use Rattle.chip_sheet.specs.Stops.{stop};
 ghost use Rattle.ring_mem.specs.Buffers.{flight_of, unread_of};
 ghost use Rattle.sock_cmd.specs.declared.life.Life.{Life};
 ghost use Rattle.sock_cmd.specs.Lives.{life_of};
@@ -47,12 +44,12 @@ fn any_open(lives: &[Life; 8]) -> bool
 
 impl Parts {
     ghost use Rattle.chip_parts.specs.Holding.{Holds, ClosedIsEmpty};
+    ghost use Rattle.chip_parts.specs.Writing.{AtByte, Goes, Refuses, changes_a_size};
 
     /// Whether a byte that is written to the register block of a socket changes a size.
     fn resizes(&self, sn: u8, addr: u16, v: u8) -> bool
         requires { sn < 8 }
-        ensures { (starts : Starts) (past : Past) (e : BusEvent) → Holds starts self.now past → access past e ≡ Write (registers_of sn) addr v
-            → result ≡ (resizes past rx_sizes (access past e) || resizes past tx_sizes (access past e)) }
+        ensures { (starts : Starts) (past : Past) (e : BusEvent) → Holds starts self.now past → access past e ≡ Write (registers_of sn) addr v → result ≡ changes_a_size past e }
     {
         let registers = &self.registers[sn as usize];
         if addr == RX_SIZE {
@@ -69,8 +66,7 @@ impl Parts {
         requires sn { sn < 8 }
         requires flight { (n : ℕ) → n < 8 → flight_of self.old.rings n ≡ 0 }
         requires unread { (n : ℕ) → n < 8 → unread_of self.old.rings n ≡ 0 }
-        ensures { (starts : Starts) (past : Past) (e : BusEvent) (a : BusAnswer) → Holds starts self.old past → access past e ≡ Write (registers_of sn) addr v
-            → (resizes past rx_sizes (access past e) || resizes past tx_sizes (access past e)) ≡ true → Holds starts self.new (Bus e a ∷ past) }
+        ensures { AtByte self.old (registers_of sn) addr v (λ starts past e a. changes_a_size past e ≡ true → Holds starts self.new (Bus e a ∷ past)) }
     {
         let (tx, rx) = self.rings.sizes();
         let tx = sizes_with(tx, sn, addr == TX_SIZE, v);
@@ -88,10 +84,8 @@ impl Parts {
         requires sn { sn < 8 }
         requires no_command { addr ≢ sn_cr }
         requires windows { ClosedIsEmpty self.old }
-        ensures ok { OnOk result ((starts : Starts) (past : Past) (e : BusEvent) (a : BusAnswer) → Holds starts self.old past → access past e ≡ Write (registers_of sn) addr v
-            → (stop starts past e ≡ None) × Holds starts self.new (Bus e a ∷ past)) }
-        ensures err { IfErr result (λ s. (self.new ≡ self.old) × ((starts : Starts) (past : Past) (e : BusEvent) → Holds starts self.old past → access past e ≡ Write (registers_of sn) addr v
-            → stop starts past e ≡ Some s)) }
+        ensures ok { OnOk result (AtByte self.old (registers_of sn) addr v (Goes self.new)) }
+        ensures err { IfErr result (λ s. (self.new ≡ self.old) × Refuses self.old (registers_of sn) addr v s) }
     {
         if self.resizes(sn, addr, v) {
             if any_open(&self.lives) {

@@ -1,14 +1,6 @@
 //! A write of a byte, to any block.
-ghost use Rattle.std.specs.Prelude.{◌≡◌, ◌≢◌, ◌<◌, ◌^◌, ◌∷◌, ◌%◌, ◌==◌, ◌&&◌, slice_index_or, ℕ, IfOk, IfErr, OnOk, Some, None};
-ghost use Rattle.board_bus.specs.declared.event.BusEvent.{BusEvent};
-ghost use Rattle.board_bus.specs.declared.event.BusAnswer.{BusAnswer};
-ghost use Rattle.chip_sheet.specs.declared.event.Entry.TheVariants.{Bus};
-ghost use Rattle.chip_sheet.specs.declared.phase.Access.TheVariants.{Write};
-ghost use Rattle.chip_sheet.specs.Past.{Past};
-ghost use Rattle.chip_sheet.specs.Frames.{access};
-ghost use Rattle.chip_sheet.specs.Legal.{Legal};
+ghost use Rattle.std.specs.Prelude.{◌≡◌, ◌≢◌, ◌<◌, ◌^◌, ◌%◌, ◌==◌, ◌&&◌, slice_index_or, ℕ, IfOk, IfErr, OnOk};
 ghost use Rattle.chip_sheet.specs.Names.{sn_cr};
-ghost use Rattle.chip_sheet.specs.Streams.{Starts};
 ghost use Rattle.chip_sheet.specs.Stops.{stop};
 ghost use Rattle.sock_cmd.specs.declared.life.Life.{Life};
 ghost use Rattle.sock_cmd.specs.Lives.{life_of};
@@ -24,18 +16,16 @@ fn is_command(bits: u8, addr: u16) -> bool
 }
 
 impl Parts {
-    ghost use Rattle.chip_parts.specs.Holding.{Holds, ClosedIsEmpty};
-    ghost use Rattle.chip_parts.specs.Writing.{AfterWrite};
+    ghost use Rattle.chip_parts.specs.Holding.{ClosedIsEmpty};
+    ghost use Rattle.chip_parts.specs.Writing.{AfterWrite, AtLegalByte, RefusesLegal, Goes};
 
     /// Writes a byte that is no command to a socket.
     fn write_byte(&mut self, bits: u8, addr: u16, v: u8) -> Result<(), ChipStop>
         requires bits { bits < 32 }
         requires no_command { bits % 4 ≡ 1 → addr ≢ sn_cr }
         requires windows { ClosedIsEmpty self.old }
-        ensures ok { OnOk result ((starts : Starts) (past : Past) (e : BusEvent) (a : BusAnswer) → Legal starts past → Holds starts self.old past → access past e ≡ Write bits addr v
-            → (stop starts past e ≡ None) × Holds starts self.new (Bus e a ∷ past)) }
-        ensures err { IfErr result (λ s. (self.new ≡ self.old) × ((starts : Starts) (past : Past) (e : BusEvent) → Legal starts past → Holds starts self.old past → access past e ≡ Write bits addr v
-            → stop starts past e ≡ Some s)) }
+        ensures ok { OnOk result (AtLegalByte self.old bits addr v (Goes self.new)) }
+        ensures err { IfErr result (λ s. (self.new ≡ self.old) × RefusesLegal self.old bits addr v s) }
     {
         let sn = bits / 4;
         let kind = bits % 4;
@@ -62,10 +52,8 @@ impl Parts {
         requires bits { bits < 32 }
         requires few { (n : ℕ) (other : Life) → n < 8 → (life_of (slice_index_or self.old.lives n other)).lives < 2 ^ 60 }
         requires windows { ClosedIsEmpty self.old }
-        ensures ok { IfOk result (λ k. (starts : Starts) (past : Past) (e : BusEvent) (a : BusAnswer) → Legal starts past → Holds starts self.old past → access past e ≡ Write bits addr v
-            → AfterWrite starts past e a bits k self.new) }
-        ensures err { IfErr result (λ s. (self.new ≡ self.old) × ((starts : Starts) (past : Past) (e : BusEvent) → Legal starts past → Holds starts self.old past → access past e ≡ Write bits addr v
-            → stop starts past e ≡ Some s)) }
+        ensures ok { IfOk result (λ k. AtLegalByte self.old bits addr v (λ starts past e a. AfterWrite starts past e a bits k self.new)) }
+        ensures err { IfErr result (λ s. (self.new ≡ self.old) × RefusesLegal self.old bits addr v s) }
     {
         if is_command(bits, addr) {
             self.write_command(bits / 4, v)
