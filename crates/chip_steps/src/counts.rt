@@ -1,15 +1,14 @@
 //! Laws of counts over all lives of a socket, and of SENDOK, each the contract of an empty function.
-ghost use Rattle.std.specs.Prelude.{◌≡◌, ◌≤◌, ◌<◌, ◌↔◌, ◌⊎◌, ℕ, ◌+◌, ◌*◌, length, true};
+ghost use Rattle.std.specs.Prelude.{◌≡◌, ◌≤◌, ◌<◌, ◌↔◌, ◌⊎◌, ℕ, ◌*◌, length, true};
 ghost use Rattle.chip_sheet.specs.declared.event.Entry.{Entry};
-ghost use Rattle.chip_sheet.specs.declared.socket.Cause.TheVariants.{Send, Took};
 ghost use Rattle.chip_sheet.specs.declared.socket.Interrupt.TheVariants.{SendOk};
 ghost use Rattle.chip_sheet.specs.Past.{Past};
-ghost use Rattle.chip_sheet.specs.Life.{cause, status, lives};
-ghost use Rattle.chip_sheet.specs.Positions.{has_between};
-ghost use Rattle.chip_sheet.specs.Streams.{Starts, sent, ends, sends, range_length, taken};
+ghost use Rattle.chip_sheet.specs.Life.{status, lives};
+ghost use Rattle.chip_sheet.specs.Streams.{Starts, sent, taken};
 ghost use Rattle.chip_sheet.specs.Interrupts.{raised_by};
 ghost use Rattle.chip_sheet.specs.Connections.{sent_in_all, taken_in_all, got_in_all};
 ghost use Rattle.chip_sheet.specs.Legal.{Legal};
+ghost use Rattle.chip_steps.specs.Steps.{SendsNothing, ReachesAnEnd};
 
 /// In a legal history each entry adds at most 16,384 bytes to what was sent in all lives of a socket, and at most 1,480 to what was
 /// received; and no more was taken than sent.
@@ -22,6 +21,5 @@ pub fn counts_over_lives()
 /// SENDOK rises exactly at a SEND of no bytes in a status that takes it, and where the taken count reaches or passes the end of a SEND.
 pub fn sendok_exactly()
     ensures { (starts : Starts) (past : Past) (n : ℕ) (entry : Entry) → (raised_by starts past n SendOk entry ≡ true)
-        ↔ (((cause past n entry ≡ Send) × (sends (status past n) ≡ true) × (range_length starts past n (length (sent starts past n (lives past n))) ≡ 0))
-        ⊎ ((k : ℕ) × (cause past n entry ≡ Took k) × (has_between (taken past n (lives past n)) (taken past n (lives past n) + k) (ends starts past n (lives past n)) ≡ true))) }
+        ↔ (SendsNothing starts past entry n ⊎ ReachesAnEnd starts past entry n) }
 {}

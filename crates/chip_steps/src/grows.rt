@@ -8,16 +8,17 @@ ghost use Rattle.chip_sheet.specs.declared.event.LinkEntry.{LinkEntry};
 ghost use Rattle.chip_sheet.specs.declared.socket.Cause.TheVariants.{Send};
 ghost use Rattle.chip_sheet.specs.Past.{Past};
 ghost use Rattle.chip_sheet.specs.Life.{cause, status, lives};
-ghost use Rattle.chip_sheet.specs.Streams.{Starts, sent, sends, range_length, taken_by, put_by};
+ghost use Rattle.chip_sheet.specs.Streams.{Starts, sent, sends, taken_by, put_by};
 ghost use Rattle.chip_sheet.specs.Windows.{rx_free};
 ghost use Rattle.chip_sheet.specs.LinkCalls.{fits};
 ghost use Rattle.chip_sheet.specs.Connections.{sent_in_all, taken_in_all, got_in_all};
 ghost use Rattle.chip_sheet.specs.Legal.{Legal};
+ghost use Rattle.chip_steps.specs.Steps.{IsSend, TakesSend, due_length};
 
 /// A SEND in a status that takes it adds the length of its range to what was sent; nothing else adds to it.
 pub fn sent_grows()
-    ensures by_send { (starts : Starts) (past : Past) (entry : Entry) (n : ℕ) → cause past n entry ≡ Send → sends (status past n) ≡ true
-        → sent_in_all starts (entry ∷ past) n ≡ sent_in_all starts past n + range_length starts past n (length (sent starts past n (lives past n))) }
+    ensures by_send { (starts : Starts) (past : Past) (entry : Entry) (n : ℕ) → IsSend past entry n → TakesSend past n
+        → sent_in_all starts (entry ∷ past) n ≡ sent_in_all starts past n + due_length starts past n }
     ensures stays { (starts : Starts) (past : Past) (entry : Entry) (n : ℕ) → (cause past n entry ≡ Send → sends (status past n) ≡ false) → sent_in_all starts (entry ∷ past) n ≡ sent_in_all starts past n }
 {}
 
