@@ -1,45 +1,42 @@
 //! Laws of the sockets' definitions, each the contract of an empty function.
-ghost use Rattle.std.specs.Prelude.{◌≡◌, ◌≤◌, ◌<◌, ◌↔◌, ◌==◌, not, bit_and, ℕ, ◌+◌, ◌-◌, ◌*◌, ◌%◌, ◌^◌, ◌⊎◌, List, [], ◌∷◌, ◌++◌, length, take, slice_get, slice_index, Some, None, true, false, if◌then◌else◌};
+ghost use Rattle.std.specs.Prelude.{◌≡◌, ◌≤◌, ◌<◌, ◌↔◌, ◌==◌, not, bit_and, ℕ, ◌+◌, ◌-◌, ◌*◌, ◌%◌, ◌^◌, List, [], ◌∷◌, ◌++◌, length, Some, None, true, false, if◌then◌else◌};
 ghost use Rattle.std.specs.Option.{IsSome};
 ghost use Rattle.board_bus.specs.declared.event.BusEvent.{BusEvent};
-ghost use Rattle.board_bus.specs.declared.event.BusEvent.TheVariants.{Byte};
 ghost use Rattle.board_bus.specs.declared.event.BusAnswer.{BusAnswer};
-ghost use Rattle.chip_sheet.specs.declared.event.Entry.TheVariants.{Bus, Link};
+ghost use Rattle.chip_sheet.specs.declared.event.Entry.TheVariants.{Bus};
 ghost use Rattle.chip_sheet.specs.declared.event.LinkEntry.TheVariants.{Took, Datagram};
 ghost use Rattle.chip_sheet.specs.declared.event.Addr.{Addr};
 ghost use Rattle.chip_sheet.specs.declared.stop.ChipStop.TheVariants.{SendBusy};
-ghost use Rattle.chip_sheet.specs.declared.socket.Interrupt.TheVariants.{Received};
-ghost use Rattle.board_bus.specs.declared.event.BusAnswer.TheVariants.{Out};
-ghost use Rattle.chip_sheet.specs.declared.phase.Access.TheVariants.{NoAccess, Write};
-ghost use Rattle.chip_sheet.specs.declared.socket.Status.TheVariants.{Closed, Established, FinWait, CloseWait, LastAck, Udp};
+ghost use Rattle.chip_sheet.specs.declared.phase.Access.TheVariants.{Write};
+ghost use Rattle.chip_sheet.specs.declared.socket.Status.TheVariants.{Closed, Udp};
 ghost use Rattle.chip_sheet.specs.declared.socket.Cause.TheVariants.{Send};
 ghost use Rattle.chip_sheet.specs.declared.event.Entry.{Entry};
 ghost use Rattle.chip_sheet.specs.Past.{Past, GoesOn};
-ghost use Rattle.chip_sheet.specs.Frames.{access, access_of};
+ghost use Rattle.chip_sheet.specs.Frames.{access_of};
 ghost use Rattle.chip_sheet.specs.Registers.{is_reset};
 ghost use Rattle.chip_sheet.specs.Life.{cause, status, lives, old, is_closed, is_udp};
 ghost use Rattle.chip_sheet.specs.Sizes.{is_size, tx_size, rx_size};
-ghost use Rattle.chip_sheet.specs.Streams.{Starts, sent, sends, range, range_length, taken, got, released, tx_byte, tx_base, rx_base, is_open, is_made, header};
-ghost use Rattle.chip_sheet.specs.Windows.{flight, unread, tx_free, rx_free, rx_byte, in_flight_at, offered_length, offered, room_length};
+ghost use Rattle.chip_sheet.specs.Streams.{Starts, sent, sends, range, taken, got, released, tx_byte, is_open, is_made, header};
+ghost use Rattle.chip_sheet.specs.Windows.{flight, unread, rx_free, rx_byte, in_flight_at, offered_length, offered};
 ghost use Rattle.chip_sheet.specs.Answers.{answer, byte_at};
-ghost use Rattle.chip_sheet.specs.Legal.{Legal, FitsAfter};
+ghost use Rattle.chip_sheet.specs.Legal.{Legal};
 ghost use Rattle.chip_sheet.specs.Bits.{has_bit};
-ghost use Rattle.chip_sheet.specs.Interrupts.{bit_value, raised_by, raised, interrupt_register, mask, asks, sir_register, enabled_sockets, interrupt_low};
+ghost use Rattle.chip_sheet.specs.Interrupts.{bit_value, raised, interrupt_register, mask, asks, sir_register, enabled_sockets, interrupt_low};
 ghost use Rattle.chip_sheet.specs.declared.socket.Interrupt.{Interrupt};
 ghost use Rattle.chip_sheet.specs.declared.socket.Due.{Due};
 ghost use Rattle.chip_sheet.specs.declared.block.Block.{Block};
 ghost use Rattle.chip_sheet.specs.declared.block.Block.TheVariants.{Registers, TxBuffer, RxBuffer};
 ghost use Rattle.chip_sheet.specs.Blocks.{block_of, registers_of, tx_buffer_of, rx_buffer_of};
-ghost use Rattle.chip_sheet.specs.LinkCalls.{outgoing, incoming, connection, kept_address, kept_port, fits};
-ghost use Rattle.chip_sheet.specs.LinkAnswers.{LinkAnswer, entry_by, may_answer};
+ghost use Rattle.chip_sheet.specs.LinkCalls.{connection, fits};
+ghost use Rattle.chip_sheet.specs.LinkAnswers.{LinkAnswer};
 ghost use Rattle.chip_sheet.specs.Sending.{fresh};
 ghost use Rattle.chip_sheet.specs.Receiving as receiving_of;
 ghost use Rattle.chip_sheet.specs.Buffers.{sending, receiving};
 ghost use Rattle.chip_sheet.specs.Quiet.{LeavesLife, Untouched, LeavesAll, LeavesOther};
 ghost use Rattle.chip_sheet.specs.declared.socket.Cause.TheVariants.{Nothing, Dropped};
 ghost use Rattle.chip_sheet.specs.declared.socket.Due.TheVariants as due;
-ghost use Rattle.chip_sheet.specs.Names.{sn_cr, send_command};
 ghost use Rattle.chip_sheet.specs.Stops.{stop};
+ghost use Rattle.chip_laws.specs.Present.{sent_now, taken_now, got_now, released_now, WritesSend, HasInFlight, SizesStay, IsPlaceOfGot, IsDue, MayAnswer, FlightIsDue, Carries, byte_now, Receives, Loses, IsUnread, AnswerFits, GivesOffered, IsIdleInUdp, RangeFits, SendsRange, with_header, ReadsGot, HasFree};
 
 /// What was sent in a life of a socket stays: at each later moment it is a front of what is sent then.
 pub fn sent_stays()
@@ -80,17 +77,15 @@ pub fn same_place()
 /// A byte in flight stands at the place of an address exactly where the buffer has a size and the position of some byte in flight
 /// has that place.
 pub fn in_flight_exact()
-    ensures { (starts : Starts) (past : Past) (n addr : ℕ) → IsSome (in_flight_at starts past n addr)
-        ↔ ((0 < tx_size past n) × ((j : ℕ) × (j < flight starts past n) × ((tx_base starts past n (lives past n) + taken past n (lives past n) + j) % tx_size past n ≡ addr % tx_size past n))) }
+    ensures { (starts : Starts) (past : Past) (n addr : ℕ) → IsSome (in_flight_at starts past n addr) ↔ HasInFlight starts past n addr }
 {}
 
 /// In a legal history the sizes of both directions' buffers stay as they are with each entry that leaves some socket open, and with
 /// each that finds one open and is no reset of the chip.
 pub fn sizes_stay()
-    ensures leaves { (starts : Starts) (past : Past) (entry : Entry) (n k : ℕ) → n < 8 → Legal starts (entry ∷ past) → is_closed (status (entry ∷ past) n) ≡ false
-        → (tx_size (entry ∷ past) k ≡ tx_size past k) × (rx_size (entry ∷ past) k ≡ rx_size past k) }
-    ensures finds { (starts : Starts) (past : Past) (entry : Entry) (n k : ℕ) → n < 8 → Legal starts (entry ∷ past) → is_closed (status past n) ≡ false → is_reset (access_of past entry) ≡ false
-        → (tx_size (entry ∷ past) k ≡ tx_size past k) × (rx_size (entry ∷ past) k ≡ rx_size past k) }
+    ensures leaves { (starts : Starts) (past : Past) (entry : Entry) (n k : ℕ) → n < 8 → Legal starts (entry ∷ past) → is_closed (status (entry ∷ past) n) ≡ false → SizesStay past entry k }
+    ensures finds { (starts : Starts) (past : Past) (entry : Entry) (n k : ℕ) → n < 8 → Legal starts (entry ∷ past) → is_closed (status past n) ≡ false
+        → is_reset (access_of past entry) ≡ false → SizesStay past entry k }
 {}
 
 /// In a legal history the bytes in flight of a socket fit its TX buffer.
@@ -106,10 +101,8 @@ pub fn unread_fits()
 /// In a legal history each byte that an open socket received and did not release is read from the RX buffer, at each address that
 /// has the place of the byte's position.
 pub fn received_reads_back()
-    ensures { (starts : Starts) (past : Past) (n q addr : ℕ) → n < 8 → Legal starts past → is_open (status past n) ≡ true
-        → released starts past n (lives past n) ≤ q → q < length (got starts past n (lives past n))
-        → addr % rx_size past n ≡ (rx_base starts past n (lives past n) + q) % rx_size past n
-        → rx_byte starts past n addr ≡ slice_index (got starts past n (lives past n)) q }
+    ensures { (starts : Starts) (past : Past) (n q addr : ℕ) → n < 8 → Legal starts past → is_open (status past n) ≡ true → IsUnread starts past n q → IsPlaceOfGot starts past n q addr
+        → ReadsGot starts past n q addr }
 {}
 
 /// What is nothing for a socket leaves its life, lists, windows and what it keeps for the link; and what does not touch the socket,
@@ -131,16 +124,16 @@ pub fn interrupts_as_bits()
 /// What a link may answer to a call that is due, within what is offered to it or may be read at once, adds an entry that fits; and
 /// what it took of the offered bytes goes on behind what it took before.
 pub fn answers_fit()
-    ensures fits { (starts : Starts) (past : Past) (n : ℕ) (call : Due) (answer : LinkAnswer) → n < 8 → (outgoing starts past n ≡ call) ⊎ (incoming starts past n ≡ call)
-        → may_answer call (offered_length starts past n) (room_length starts past n) answer ≡ true → FitsAfter starts past (entry_by n (flight starts past n) call answer) }
-    ensures given { (starts : Starts) (past : Past) (n k : ℕ) → is_open (status past n) ≡ true → k ≤ offered_length starts past n
-        → take (taken past n (lives past n) + k) (sent starts past n (lives past n)) ≡ take (taken past n (lives past n)) (sent starts past n (lives past n)) ++ take k (offered starts past n) }
+    ensures fits { (starts : Starts) (past : Past) (n : ℕ) (call : Due) (answer : LinkAnswer) → n < 8 → IsDue starts past n call → MayAnswer starts past n call answer
+        → AnswerFits starts past n call answer }
+    ensures given { (starts : Starts) (past : Past) (n k : ℕ) → is_open (status past n) ≡ true → k ≤ offered_length starts past n → GivesOffered starts past n k }
 {}
 
 /// After a reset each address of each block reads what it reads after power-on, INTn is high, and both directions of each socket are
 /// fresh, with buffers of 2 KB.
 pub fn reset_restores()
-    ensures reads { (starts : Starts) (past : Past) (entry : Entry) (block : Block) (at : ℕ) → is_reset (access_of past entry) ≡ true → byte_at starts (entry ∷ past) block at ≡ byte_at starts [] block at }
+    ensures reads { (starts : Starts) (past : Past) (entry : Entry) (block : Block) (at : ℕ) → is_reset (access_of past entry) ≡ true
+        → byte_at starts (entry ∷ past) block at ≡ byte_at starts [] block at }
     ensures line { (starts : Starts) (past : Past) (entry : Entry) → is_reset (access_of past entry) ≡ true → interrupt_low starts (entry ∷ past) ≡ false }
     ensures sending { (starts : Starts) (past : Past) (entry : Entry) (n : ℕ) → is_reset (access_of past entry) ≡ true → sending starts (entry ∷ past) n ≡ fresh 2048 }
     ensures receiving { (starts : Starts) (past : Past) (entry : Entry) (n : ℕ) → is_reset (access_of past entry) ≡ true → receiving starts (entry ∷ past) n ≡ receiving_of.fresh 2048 }
@@ -170,38 +163,31 @@ pub fn lives_of_a_socket()
 
 /// A SEND that fits goes through, in UDP where no datagram is in flight, and adds exactly its range to what was sent.
 pub fn send_that_fits()
-    ensures goes { (starts : Starts) (past : Past) (e : BusEvent) (n : ℕ) → access past e ≡ Write (registers_of n) sn_cr send_command → sends (status past n) ≡ true
-        → (is_udp (status past n) ≡ true → flight starts past n ≡ 0) → range_length starts past n (length (sent starts past n (lives past n))) ≤ tx_free starts past n
+    ensures goes { (starts : Starts) (past : Past) (e : BusEvent) (n : ℕ) → WritesSend past e n → sends (status past n) ≡ true → IsIdleInUdp starts past n → RangeFits starts past n
         → stop starts past e ≡ None }
-    ensures adds { (starts : Starts) (past : Past) (e : BusEvent) (a : BusAnswer) (n : ℕ) → access past e ≡ Write (registers_of n) sn_cr send_command → sends (status past n) ≡ true
-        → sent starts (Bus e a ∷ past) n (lives past n) ≡ sent starts past n (lives past n) ++ range starts past n (length (sent starts past n (lives past n))) }
+    ensures adds { (starts : Starts) (past : Past) (e : BusEvent) (a : BusAnswer) (n : ℕ) → WritesSend past e n → sends (status past n) ≡ true → SendsRange starts past (Bus e a) n }
 {}
 
 /// In each status of a connection, after DISCON and after the peer's end too, and in UDP, what was sent and not taken is in flight, and
 /// what was received and not released is unread. While no old life is there, what is in flight is due.
 pub fn windows_of_a_connection()
-    ensures flight { (starts : Starts) (past : Past) (n : ℕ) → (status past n ≡ Established) ⊎ ((status past n ≡ FinWait) ⊎ ((status past n ≡ CloseWait) ⊎ ((status past n ≡ LastAck) ⊎ (status past n ≡ Udp))))
-        → flight starts past n ≡ length (sent starts past n (lives past n)) - taken past n (lives past n) }
-    ensures unread { (starts : Starts) (past : Past) (n : ℕ) → (status past n ≡ Established) ⊎ ((status past n ≡ FinWait) ⊎ ((status past n ≡ CloseWait) ⊎ ((status past n ≡ LastAck) ⊎ (status past n ≡ Udp))))
-        → unread starts past n ≡ length (got starts past n (lives past n)) - released starts past n (lives past n) }
-    ensures due { (starts : Starts) (past : Past) (n : ℕ) → old past n ≡ None → 0 < flight starts past n
-        → (outgoing starts past n ≡ due.Write (connection n (lives past n))) ⊎ (outgoing starts past n ≡ due.SendTo (connection n (lives past n)) (kept_port past n) (kept_address past n)) }
+    ensures flight { (starts : Starts) (past : Past) (n : ℕ) → Carries past n → flight starts past n ≡ length (sent_now starts past n) - taken_now past n }
+    ensures unread { (starts : Starts) (past : Past) (n : ℕ) → Carries past n → unread starts past n ≡ length (got_now starts past n) - released_now starts past n }
+    ensures due { (starts : Starts) (past : Past) (n : ℕ) → old past n ≡ None → 0 < flight starts past n → FlightIsDue starts past n }
 {}
 
 /// A byte that is written to a TX buffer is read at each address of its place, and no other byte of the buffer changes.
 pub fn written_reads_back()
-    ensures { (past : Past) (entry : Entry) (n addr v at : ℕ) → access_of past entry ≡ Write (tx_buffer_of n) addr v → 0 < tx_size past n
-        → tx_byte (entry ∷ past) n at ≡ (if addr % tx_size past n == at % tx_size past n then v else tx_byte past n at) }
+    ensures { (past : Past) (entry : Entry) (n addr v at : ℕ) → access_of past entry ≡ Write (tx_buffer_of n) addr v → 0 < tx_size past n → tx_byte (entry ∷ past) n at ≡ byte_now past n addr v at }
 {}
 
 /// Datagrams. While one is in flight another SEND stops; the link takes it whole. One that comes is put with a header of eight bytes
 /// where that and its body are free, and raises RECV; else it is lost, and raises nothing.
 pub fn datagrams()
-    ensures busy { (starts : Starts) (past : Past) (e : BusEvent) (n : ℕ) → access past e ≡ Write (registers_of n) sn_cr send_command → status past n ≡ Udp → 0 < flight starts past n → stop starts past e ≡ Some (SendBusy n) }
+    ensures busy { (starts : Starts) (past : Past) (e : BusEvent) (n : ℕ) → WritesSend past e n → status past n ≡ Udp → 0 < flight starts past n → stop starts past e ≡ Some (SendBusy n) }
     ensures whole { (starts : Starts) (past : Past) (n k : ℕ) → status past n ≡ Udp → fits starts past n (Took k) ≡ true → k ≡ flight starts past n }
-    ensures put { (starts : Starts) (past : Past) (n : ℕ) (from : Addr) (body : List ℕ) → status past n ≡ Udp → 8 + length body ≤ rx_free starts past n
-        → (got starts (Link n (Datagram from body) ∷ past) n (lives past n) ≡ got starts past n (lives past n) ++ (header from (length body) ++ body)) × (raised_by starts past n Received (Link n (Datagram from body)) ≡ true) }
-    ensures lost { (starts : Starts) (past : Past) (n : ℕ) (from : Addr) (body : List ℕ) → status past n ≡ Udp → rx_free starts past n < 8 + length body
-        → (got starts (Link n (Datagram from body) ∷ past) n (lives past n) ≡ got starts past n (lives past n)) × (raised_by starts past n Received (Link n (Datagram from body)) ≡ false) }
+    ensures put { (starts : Starts) (past : Past) (n : ℕ) (from : Addr) (body : List ℕ) → status past n ≡ Udp → HasFree starts past n body
+        → Receives starts past n (Datagram from body) (with_header from body) }
+    ensures lost { (starts : Starts) (past : Past) (n : ℕ) (from : Addr) (body : List ℕ) → status past n ≡ Udp → rx_free starts past n < 8 + length body → Loses starts past n (Datagram from body) }
     ensures header { (from : Addr) (count : ℕ) → length (header from count) ≡ 8 }
 {}
