@@ -1,6 +1,7 @@
 -- How many words an instruction takes, and how many the word takes that says it.
 use Rattle.std.proofs.Common.{◌≡◌, ℕ, zero, suc, ◌/◌, ◌%◌, ◌<◌, Bool, true, false, List, [], ◌∷◌, refl, ap, sym, subst, ◌∙◌, arith, inl, inr, ◌⊎◌}
 use Rattle.std.specs.Prelude.{◌==◌, ◌&&◌, ◌||◌, filter, if◌then◌else◌, slice_get, Some, Result, Ok, Err, IfOk}
+use Rattle.std.proofs.lemmas.Bool.Decides.{nat_tests}
 use Rattle.avr_table.specs.Row.{Row, fits, instr_of}
 use Rattle.avr_table.specs.Rows.{rows}
 use Rattle.avr_table.specs.Decoded.{decoded, decoded_by, checked, is_undefined}
@@ -12,6 +13,7 @@ use Rattle.avr_table.specs.declared.instr.Moves.TheVariants.{Lds, Sts}
 use Rattle.avr_table.specs.declared.instr.Jumps.TheVariants.{Jmp, Call}
 use Rattle.avr_table.specs.declared.fault.DecodeFault.TheVariants.{Undefined}
 use Rattle.avr_sheet.proofs.Table.{table, same_at}
+use Rattle.avr_table.proofs.Alike.{begins, not_fitting}
 use Rattle.avr_table.proofs.Rows.{at_first, past_first, is_either, clash, is_apart, is_apart_from, are_apart, all_apart, first_and, second_and, test_from_is, test_from_not}
 
 -- The test of the code.
@@ -21,12 +23,51 @@ long_of w =
     else if w / 1024 == 37 then w / 512 % 2 == 0 && w / 4 % 4 == 3
     else false
 
-long_agrees : table (λ (rs : List Row) w. long_of w) long_rows 0 65536 ≡ table (λ rs w. fits_long_by rs w) long_rows 0 65536
+long_agrees : table (λ (rs : List Row) w. long_of w) long_rows 36864 4096 ≡ table (λ rs w. fits_long_by rs w) long_rows 36864 4096
 long_agrees = refl
+
+-- Each of the four rows begins with 1001, so that a word of another nibble fits none.
+abbrev begins_any : ℕ → List Row → Bool
+begins_any nibble [] = false
+begins_any nibble (x ∷ rs) = begins nibble x || begins_any nibble rs
+
+begin_with_1001 : table (λ (rs : List Row) nibble. begins_any nibble rs) long_rows 0 16 ≡ table (λ rs nibble. nibble == 9) long_rows 0 16
+begin_with_1001 = refl
+
+first_or : (a b : Bool) → (a || b) ≡ false → a ≡ false
+first_or true b h = absurd (cc)
+first_or false b h = refl
+
+second_or : (a b : Bool) → (a || b) ≡ false → b ≡ false
+second_or true b h = absurd (cc)
+second_or false b h = h
+
+fits_none_of : (nibble : ℕ) (rs : List Row) (w : ℕ) → w / 4096 ≡ nibble → begins_any nibble rs ≡ false → fits_long_by rs w ≡ false
+fits_none_of nibble [] w is none = refl
+fits_none_of nibble (x ∷ rs) w is none =
+    ap (λ b. b || fits_long_by rs w) (not_fitting nibble x w is (first_or (begins nibble x) _ none))
+    ∙ fits_none_of nibble rs w is (second_or (begins nibble x) _ none)
+
+other_nibble : (w : ℕ) → w < 65536 → (w / 4096 == 9) ≡ false → long_of w ≡ fits_long_by long_rows w
+other_nibble w high other =
+    let none : begins_any (w / 4096) long_rows ≡ false =
+    same_at (λ (rs : List Row) nibble. begins_any nibble rs) (λ rs nibble. nibble == 9) long_rows 0 16 begin_with_1001 (w / 4096) (omega arith) (omega arith) ∙ other in
+    let not36 : (w / 1024 == 36) ≡ false = test_from_not _ _ (λ h. let nine : w / 4096 ≡ 9 = omega arith in let is = test_from_is _ _ nine in cc) in
+    let not37 : (w / 1024 == 37) ≡ false = test_from_not _ _ (λ h. let nine : w / 4096 ≡ 9 = omega arith in let is = test_from_is _ _ nine in cc) in
+    let short : long_of w ≡ false = rw (not36, not37) refl in
+    short ∙ sym (fits_none_of (w / 4096) long_rows w refl none)
+
+is_from_nine : (w : ℕ) → (w / 4096 == 9) ≡ true → w / 4096 ≡ 9
+is_from_nine w h = grind (arith, nat_tests)
 
 pub same_long : (w : ℕ) → w < 65536 → long_of w ≡ fits_long w
 unfolding fits_long
-same_long w high = same_at (λ (rs : List Row) v. long_of v) (λ rs v. fits_long_by rs v) long_rows 0 65536 long_agrees w (omega arith) (omega arith)
+same_long w high = elim (is_either (w / 4096 == 9)) [
+  | inl nine ↦
+      let is = is_from_nine w nine in
+      same_at (λ (rs : List Row) v. long_of v) (λ rs v. fits_long_by rs v) long_rows 36864 4096 long_agrees w (omega arith) (omega arith)
+  | inr other ↦ other_nibble w high other
+]
 
 pub long_36 : (w : ℕ) → w < 65536 → w / 1024 ≡ 36 → (w % 16 == 0) ≡ fits_long w
 long_36 w high h =
