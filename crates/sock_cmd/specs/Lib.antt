@@ -1,3 +1,4 @@
 pub mod Effects
 pub mod LifeStops
 pub mod Lives
+pub mod Going
