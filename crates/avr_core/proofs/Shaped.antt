@@ -23,7 +23,7 @@ use Rattle.avr_core.specs.Within.{IsAsked}
 use Rattle.avr_core.specs.declared.bus.DataEnd.{DataEnd}
 use Rattle.avr_core.specs.declared.bus.DataEnd.TheVariants as ends
 use Rattle.avr_core.specs.declared.cpu.Core.{Core}
-use Rattle.avr_core.specs.declared.went.AvrStop.TheVariants.{BadAddress, StackOut, Device}
+use Rattle.avr_sheet.specs.declared.stop.AvrStop.TheVariants.{BadAddress, StackOut, Device}
 use Rattle.avr_core.specs.declared.went.Went.{Went}
 use Rattle.avr_core.specs.declared.went.Went.TheVariants as wents
 use Rattle.avr_table.specs.WellFormed.{IsWellFormed, IsSum, IsProduct, IsLogic, IsJump, IsBits}

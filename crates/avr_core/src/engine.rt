@@ -10,12 +10,12 @@ ghost use Rattle.flash.specs.Image.{word_at};
 use crate::bus::DataBus;
 use crate::cpu::{Core, X, Y, Z, above, in_flash};
 use crate::op::Op;
-use crate::went::{AvrStop, Went};
+use crate::went::Went;
 use avr_alu::{
     adc, add, adiw, asr, bit_and, bit_eor, bit_or, com, dec, fmul, fmuls, fmulsu, inc, lsr, mul,
     muls, mulsu, neg, ror, sbc, sbiw, sub, swap,
 };
-use avr_sheet::{is_set, with_bit};
+use avr_sheet::{AvrStop, is_set, with_bit};
 use flash::Image;
 
 /// T and I of SREG.

@@ -21,8 +21,9 @@ mod stack;
 mod step;
 mod went;
 
+pub use avr_sheet::AvrStop;
 pub use bus::{DataBus, DataEnd};
 pub use code::Code;
 pub use cpu::Core;
 pub use memory::Memory;
-pub use went::{AvrStop, Went};
+pub use went::Went;

@@ -1,4 +1,4 @@
-//! What the devices of the microcontroller stop the board for.
+//! What the microcontroller stops the board for: its firmware, or one of its devices.
 
 /// Why a device of the microcontroller stops the board: the firmware started something that this board
 /// does not have (ATmega328P datasheet, the section of the device that each variant names).
@@ -38,5 +38,52 @@ pub enum DeviceStop {
     UsartMode {
         /// UCSR0C as it stood.
         ucsr0c: u8,
+    },
+}
+
+/// Why the firmware cannot go on. `pc` is the word address of the instruction; the core, its memory and its devices are
+/// as before the step.
+#[derive(Clone, Copy, Debug, PartialEq, Eq)]
+pub enum AvrStop {
+    /// No instruction has this word.
+    Illegal {
+        /// Word address of the instruction.
+        pc: u16,
+        /// The word that stands there.
+        word: u16,
+    },
+    /// The manual leaves undefined what the instruction does: its pointer changes, and its register is one of the
+    /// pointer's own two.
+    Undefined {
+        /// Word address of the instruction.
+        pc: u16,
+        /// The word that stands there.
+        word: u16,
+    },
+    /// A load or store past 08FF, the end of SRAM.
+    BadAddress {
+        /// Word address of the instruction.
+        pc: u16,
+        /// The data address.
+        addr: u16,
+    },
+    /// A stack byte would stand outside of SRAM, 0100 to 08FF.
+    StackOut {
+        /// Word address of the instruction; in an interrupt entry, of the one that would have been next.
+        pc: u16,
+        /// SP before the step.
+        sp: u16,
+    },
+    /// An `spm`: this board does not program its own flash.
+    SelfProgram {
+        /// Word address of the instruction.
+        pc: u16,
+    },
+    /// A device stops the board.
+    Device {
+        /// Word address of the instruction.
+        pc: u16,
+        /// What the device says.
+        stop: DeviceStop,
     },
 }

@@ -6,7 +6,7 @@ use Rattle.chip_sheet.specs.Stops.{stop}
 use Rattle.avr_mcu.specs.State.{McuState}
 use Rattle.avr_mcu.specs.declared.run.RunEnd as firmware
 use Rattle.avr_mcu.specs.declared.run.RunEnd.TheVariants as firmwares
-use Rattle.avr_core.specs.declared.went.AvrStop.{AvrStop}
+use Rattle.avr_sheet.specs.declared.stop.AvrStop.{AvrStop}
 use Rattle.avr_run.specs.Told.{EndWants}
 use Rattle.chip_shared.specs.declared.shared.StepEnd.{StepEnd}
 use Rattle.chip_shared.specs.declared.shared.StepEnd.TheVariants as step_ends

@@ -2,8 +2,8 @@
 use Rattle.std.specs.Prelude.{ℕ, List, [], ◌∷◌, ◌++◌, codes}
 use Rattle.avr_sheet.specs.declared.stop.DeviceStop.{DeviceStop}
 use Rattle.avr_sheet.specs.declared.stop.DeviceStop.TheVariants.{Adc, Twi, Watchdog, Eeprom, ExternalClock, TimerMode, WaveformPin, SpiMode, UsartMode}
-use Rattle.avr_core.specs.declared.went.AvrStop.{AvrStop}
-use Rattle.avr_core.specs.declared.went.AvrStop.TheVariants.{Illegal, Undefined, BadAddress, StackOut, SelfProgram, Device}
+use Rattle.avr_sheet.specs.declared.stop.AvrStop.{AvrStop}
+use Rattle.avr_sheet.specs.declared.stop.AvrStop.TheVariants.{Illegal, Undefined, BadAddress, StackOut, SelfProgram, Device}
 use Rattle.board_text.specs.Stops.{decimals}
 
 -- The name of a device's stop.

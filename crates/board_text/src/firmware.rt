@@ -2,8 +2,7 @@
 ghost use Rattle.std.specs.Prelude.{◌≡◌, IfOk, string_bytes};
 ghost use Rattle.board_text.specs.Firmware.{device_name, device_text, firmware_text};
 
-use avr_core::AvrStop;
-use avr_sheet::DeviceStop;
+use avr_sheet::{AvrStop, DeviceStop};
 use std::alloc::{AllocError, Global};
 
 // The name of a device's stop.
