@@ -24,9 +24,6 @@ use Rattle.chip_shared.proofs.Drained.{Drained, drained, Settled, Stalled, settl
 abbrev pub ClosesOn : {L : Type 0} → (L → Call → LinkAnswer → L → Type 0) → ℕ → Bool → State L → State L → Type 0
 ClosesOn effect n faulted start now = (more : ℕ) (answer : Closing) (new : State _) → more + n ≡ 8 → Closes effect more n faulted now answer new → Closes effect 8 0 false start answer new
 
-pub closes_start : {L : Type 0} (effect : L → Call → LinkAnswer → L → Type 0) (start : State L) → ClosesOn effect 0 false start start
-closes_start effect start = λ more answer new all it. let e : more ≡ 8 = omega (arith, all) in subst (λ (k : ℕ). Closes effect k 0 false start answer new) e it
-
 pub closes_step : {L : Type 0} (effect : L → Call → LinkAnswer → L → Type 0) (n : ℕ) (faulted failed : Bool) (start now mid : State L) → ClosesOn effect n faulted start now
     → (most : ℕ) × Drains effect most n now (Ok failed) mid → ClosesOn effect (n + 1) (faulted || failed) start mid
 closes_step effect n faulted failed start now mid on it =

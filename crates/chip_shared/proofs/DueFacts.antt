@@ -1,5 +1,5 @@
 -- What a call that is due says of its socket.
-use Rattle.std.proofs.Common.{◌≡◌, ◌<◌, ℕ, ◌/◌, ◌%◌, Bool, true, false, cond, eqb, ltb, Option, None, Some, refl}
+use Rattle.std.proofs.Common.{◌≡◌, ◌<◌, ℕ, ◌/◌, ◌%◌, Bool, true, false, cond, eqb, ltb, Option, None, Some, ◌⊎◌, inl, inr, refl, subst}
 use Rattle.std.proofs.lemmas.Bool.{cond_both, ltb-true}
 use Rattle.chip_sheet.specs.declared.event.Addr.{Addr}
 use Rattle.chip_sheet.specs.declared.event.ConnId.{ConnId}
@@ -61,10 +61,25 @@ pub in_of : (n : ℕ) (at : Life) (to : Addr) (port fl free : ℕ) (o : Option �
 in_of n at to port fl free (Some l) is = rw is tt
 in_of n at to port fl free None is = rw is (in_says at.status (connection n at.lives) to port fl free at.ended None)
 
--- What the call that is due at a place says of its socket.
-pub says : (starts : Starts) (past : Past) (place : ℕ) → Says (status past (place / 2)) (connection (place / 2) (lives past (place / 2))) (kept_address past (place / 2)) (flight starts past (place / 2)) (old past (place / 2)) (due_at starts past place)
+-- What a call that is due on socket n says.
+abbrev pub Says_of : Starts → Past → ℕ → Due → Type 0
+Says_of starts past n call = Says (status past n) (connection n (lives past n)) (kept_address past n) (flight starts past n) (old past n) call
+
+says : (starts : Starts) (past : Past) (place : ℕ) → Says_of starts past (place / 2) (due_at starts past place)
 says starts past place =
     let n = place / 2 in
     cond_both (eqb (place % 2) 0) (outgoing starts past n) (incoming starts past n) (Says (status past n) (connection n (lives past n)) (kept_address past n) (flight starts past n) (old past n))
     (λ e. out_of n (life past n) (kept_address past n) (kept_port past n) (flight starts past n) (old past n) refl)
     (λ e. in_of n (life past n) (kept_address past n) (kept_port past n) (flight starts past n) (rx_free starts past n) (old past n) refl)
+
+-- What the call that is due at a place says of its socket.
+pub told_of : (starts : Starts) (past : Past) (place : ℕ) (call : Due) → due_at starts past place ≡ call → Says_of starts past (place / 2) call
+told_of starts past place call is = subst (Says_of starts past (place / 2)) is (says starts past place)
+
+either_place : (b : Bool) (out in_ call : Due) → cond b out in_ ≡ call → (out ≡ call) ⊎ (in_ ≡ call)
+either_place true out in_ call h = inl h
+either_place false out in_ call h = inr h
+
+-- The call that is due at a place is one of its socket's two.
+pub of_socket : (starts : Starts) (past : Past) (place : ℕ) (call : Due) → due_at starts past place ≡ call → (outgoing starts past (place / 2) ≡ call) ⊎ (incoming starts past (place / 2) ≡ call)
+of_socket starts past place call h = either_place (eqb (place % 2) 0) (outgoing starts past (place / 2)) (incoming starts past (place / 2)) call h

@@ -18,4 +18,5 @@ pub mod Seeking
 pub mod Opens
 pub mod Needs
 pub mod SendFits
-pub mod Plain
+pub mod Here
+pub mod Begun

@@ -1,14 +1,13 @@
 -- What is offered to a write, and what a datagram is, by the pieces that the chip lends.
-use Rattle.std.proofs.Common.{◌≡◌, ◌+◌, ◌-◌, ℕ, zero, suc, Bool, true, false, ◌&&◌, leb, List, [], ◌∷◌, ◌++◌, length, length-append, take, drop, refl, sym, ap, ◌∙◌, arith}
-use Rattle.std.proofs.lemmas.Bool.{le-leb, cond-true}
+use Rattle.std.proofs.Common.{◌≡◌, ℕ, Bool, true, false, ◌&&◌, leb, List, ◌++◌, length, take, refl, sym, ap, ◌∙◌, arith}
+use Rattle.std.proofs.lemmas.Bool.{le-leb}
 use Rattle.std.proofs.Math.Seq.{take-append_seam}
 use Rattle.chip_sheet.specs.declared.event.ConnId.{ConnId}
 use Rattle.chip_sheet.specs.declared.event.Addr.{Addr}
 use Rattle.chip_sheet.specs.declared.socket.Due.TheVariants as due
 use Rattle.chip_sheet.specs.Past.{Past}
-use Rattle.chip_sheet.specs.Life.{status, lives}
-use Rattle.chip_sheet.specs.Streams.{Starts, is_open, sent, taken}
-use Rattle.chip_sheet.specs.Windows.{flight, in_flight, offered, offered_length}
+use Rattle.chip_sheet.specs.Streams.{Starts}
+use Rattle.chip_sheet.specs.Windows.{in_flight, offered, offered_length}
 use Rattle.chip_sheet.specs.LinkAnswers.{may_answer}
 use Rattle.link_trait.specs.declared.links.Writing.{Writing}
 use Rattle.link_trait.specs.declared.links.Writing.TheVariants as wrote
@@ -36,19 +35,3 @@ send_may c port to has_sent.Failed many room = refl
 pub first_offered : (starts : Starts) (past : Past) (n : ℕ) (head tail : List ℕ) → head ++ tail ≡ in_flight starts past n → length head ≡ offered_length starts past n → head ≡ offered starts past n
 first_offered starts past n head tail all long =
     sym (take-append_seam head tail) ∙ ap (λ (k : ℕ). take k (head ++ tail)) long ∙ ap (take (offered_length starts past n)) all
-
--- Both pieces are as long as what is in flight.
-pub whole_flight : (starts : Starts) (past : Past) (n : ℕ) (head tail : List ℕ) → is_open (status past n) ≡ true → head ++ tail ≡ in_flight starts past n → length head + length tail ≡ flight starts past n
-whole_flight starts past n head tail on all =
-    let s = sent starts past n (lives past n) in
-    let t = taken past n (lives past n) in
-    let is : flight starts past n ≡ length s - t = cond-true (is_open (status past n)) (length s - t) 0 on in
-    let bytes = ap length (all ∙ cond-true (is_open (status past n)) (drop t s) [] on) in
-    let both_long = length-append head tail in
-    let rest = dropped t s in
-    omega (arith, is, bytes, both_long, rest)
-  where
-    dropped : (t : ℕ) (s : List ℕ) → length (drop t s) ≡ length s - t
-    dropped zero s = omega arith
-    dropped (suc t) [] = omega arith
-    dropped (suc t) (x ∷ s) = let more = dropped t s in omega (arith, more)

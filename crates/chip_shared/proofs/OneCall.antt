@@ -1,8 +1,8 @@
 -- One call of a link step, on plain values: what it may be answered fits the chip, the shared state stays sound, and the step is the one
 -- that the definition says.
-use Rattle.std.proofs.Common.{◌≡◌, ◌≤◌, ◌<◌, ◌+◌, ◌/◌, ◌%◌, ℕ, min, Bool, true, false, cond, eqb, leb, ◌∷◌, length, Option, None, Some, inl, inr, refl, sym, ap, ◌∙◌, subst, arith, ◌⊎◌, ◌||◌, ◌^◌}
+use Rattle.std.proofs.Common.{◌≡◌, ◌≤◌, ◌<◌, ◌+◌, ◌/◌, ℕ, min, true, leb, ◌∷◌, length, Option, None, Some, refl, sym, ap, ◌∙◌, subst, arith}
 use Rattle.std.specs.Prelude.{MatchOption}
-use Rattle.std.proofs.lemmas.Bool.{and_parts, leb-true, leb-false}
+use Rattle.std.proofs.lemmas.Bool.{and_parts, leb-true}
 use Rattle.chip_sheet.specs.declared.event.LinkWhat.{LinkWhat}
 use Rattle.chip_sheet.specs.declared.event.LinkEntry.{LinkEntry}
 use Rattle.chip_sheet.specs.declared.event.Entry.{Entry}
@@ -10,34 +10,26 @@ use Rattle.chip_sheet.specs.declared.socket.Due.{Due}
 use Rattle.chip_sheet.specs.declared.socket.Due.TheVariants as due
 use Rattle.chip_sheet.specs.Past.{Past, link_entry}
 use Rattle.chip_sheet.specs.Streams.{Starts}
-use Rattle.chip_sheet.specs.Windows.{flight, in_flight, offered, offered_length, room_length, rx_free, most_read}
-use Rattle.chip_sheet.specs.Life.{status, lives, old}
-use Rattle.chip_sheet.specs.LinkCalls.{outgoing, incoming, due_at, fits, connection, kept_address}
+use Rattle.chip_sheet.specs.Windows.{flight, offered_length, room_length, rx_free, most_read}
+use Rattle.chip_sheet.specs.LinkCalls.{due_at, fits}
 use Rattle.chip_sheet.specs.LinkAnswers.{LinkAnswer, Done, DoneFrom, DoneWith, DoneBytes, DoneDatagram, NotYet, Refused, TimedOut, End, Failed, entry_by, may_answer}
 use Rattle.chip_sheet.specs.Legal.{FitsAfter}
 use Rattle.chip_sheet.proofs.AnswerLaws.{answer_fits}
 use Rattle.chip_core.specs.declared.chip.Chip.{Chip}
 use Rattle.chip_core.specs.Chip.{Stands, stop_kept, starts_of, fits_here}
-use Rattle.chip_hist.specs.Log.{Log, entry_data, weight_of}
-use Rattle.chip_hist.specs.declared.limits.TheConstants.{MOST_EVENTS}
+use Rattle.chip_hist.specs.Log.{Log, entry_data}
 use Rattle.link_trait.specs.Calls.{Call}
-use Rattle.link_trait.specs.Shown.{Shown, Lists, Makes}
+use Rattle.link_trait.specs.Shown.{Shown}
 use Rattle.chip_shared.specs.State.{State}
 use Rattle.chip_shared.specs.Sound.{Sound, state_of}
-use Rattle.chip_shared.specs.Asking.{IsOpen}
-use Rattle.chip_shared.specs.Calling.{Called, call_of, did_at}
+use Rattle.chip_shared.specs.Calling.{Called}
+use Rattle.chip_shared.specs.Causes.{Does}
 use Rattle.chip_shared.specs.Entries.{entry_for, did_for}
+use Rattle.chip_shared.specs.Making.{Begins}
 use Rattle.chip_shared.specs.declared.shared.LinkDid.{LinkDid}
-use Rattle.chip_shared.proofs.DueFacts.{Says, says}
+use Rattle.chip_shared.proofs.DueFacts.{of_socket, told_of}
 use Rattle.chip_shared.proofs.CallTied.{tied_call, ready_call}
-
-either_place : (b : Bool) (out in_ call : Due) → cond b out in_ ≡ call → (out ≡ call) ⊎ (in_ ≡ call)
-either_place true out in_ call h = inl h
-either_place false out in_ call h = inr h
-
--- The call that is due at a place is one of its socket's two.
-pub of_socket : (starts : Starts) (past : Past) (place : ℕ) (call : Due) → due_at starts past place ≡ call → (outgoing starts past (place / 2) ≡ call) ⊎ (incoming starts past (place / 2) ≡ call)
-of_socket starts past place call h = either_place (eqb (place % 2) 0) (outgoing starts past (place / 2)) (incoming starts past (place / 2)) call h
+use Rattle.chip_shared.proofs.Here.{Here}
 
 fits_some : (starts : Starts) (past : Past) (chip : Chip) (n : ℕ) (w : Option LinkWhat) → ((what : LinkEntry) → fits_here chip n what ≡ fits starts past n what) → FitsAfter starts past (entry_for n w)
     → MatchOption w (Unit {0}) (λ what. fits_here chip n (link_entry what) ≡ true)
@@ -110,69 +102,52 @@ call_room starts past place spare call answer entry may is room =
     let same = ap (λ (x : Entry). length (entry_data x)) is in
     omega (arith, few, same, room)
 
--- What a call that is due says, as a property of the call.
-abbrev Says_of : Starts → Past → ℕ → Due → Type 0
-Says_of starts past n call = Says (status past n) (connection n (lives past n)) (kept_address past n) (flight starts past n) (old past n) call
+-- What chip and history are once an entry was added.
+pub record Settled (chip new : Chip) (log after : Log) (entry : Entry) : Type 0 where
+  pub stands : Stands (starts_of chip) new (entry ∷ log.past)
+  pub starts : starts_of new ≡ starts_of chip
+  pub unstopped : stop_kept new ≡ None
+  pub past : after.past ≡ entry ∷ log.past
+  pub limit : after.limit ≡ log.limit
+  pub events : log.spare_events ≤ after.spare_events + 1
 
--- The shared state after the call is sound.
-pub call_sound : {L : Type 0} (shown : L → Shown) (chip new : Chip) (log after : Log) (links newer : L) (calls place : ℕ) (call : Due) (answer : LinkAnswer) (entry : Entry)
-    → Sound shown chip log links calls → due_at (starts_of chip) log.past place ≡ call
-    → may_answer call (offered_length (starts_of chip) log.past (place / 2)) (room_length (starts_of chip) log.past (place / 2)) answer ≡ true
-    → Lists (shown links) (call_of call (offered (starts_of chip) log.past (place / 2)) (in_flight (starts_of chip) log.past (place / 2)) (room_length (starts_of chip) log.past (place / 2))) answer (shown newer)
-    → Makes (shown links) (call_of call (offered (starts_of chip) log.past (place / 2)) (in_flight (starts_of chip) log.past (place / 2)) (room_length (starts_of chip) log.past (place / 2))) answer (shown newer)
-    → entry ≡ entry_by (place / 2) (flight (starts_of chip) log.past (place / 2)) call answer
-    → Stands (starts_of chip) new (entry ∷ log.past) → starts_of new ≡ starts_of chip → after.past ≡ entry ∷ log.past → Sound shown new after newer (calls + 1)
-call_sound shown chip new log after links newer calls place call answer entry held is may lists makes entry_is stands same past =
+pub settled : (chip new : Chip) (log after : Log) (entry : Entry) → ((starts : Starts) (c : Chip) (past : Past) → Stands starts c past → starts_of c ≡ starts) → Stands (starts_of chip) new (entry ∷ log.past)
+    → stop_kept new ≡ None → after.past ≡ entry ∷ log.past → after.limit ≡ log.limit → log.spare_events ≤ after.spare_events + 1 → Settled chip new log after entry
+settled chip new log after entry are stands unstopped past limit events =
+    record { stands = stands; starts = are (starts_of chip) new (entry ∷ log.past) stands; unstopped = unstopped; past = past; limit = limit; events = events }
+
+-- The shared state behind the call is sound.
+pub call_sound : {L : Type 0} (effect : L → Call → LinkAnswer → L → Type 0) (shown : L → Shown) (chip new : Chip) (log after : Log) (links newer : L) (calls place : ℕ) (call : Due) (w : Option LinkWhat)
+    → Sound shown chip log links calls → Begins (state_of chip log links calls) place call → Here effect shown links (starts_of chip) log.past (place / 2) call w newer
+    → Settled chip new log after (entry_for (place / 2) w) → Sound shown new after newer (calls + 1)
+call_sound effect shown chip new log after links newer calls place call w held begun made settled =
     let starts = starts_of chip in
     let n = place / 2 in
-    let told = subst (Says_of starts log.past n) is (says starts log.past place) in
+    let told = told_of starts log.past place call begun.due in
     let counted = held.counted in
-    let longer = ap length past in
+    let longer = ap length settled.past in
     record {
-      stands = rw (same, past) stands;
-      tied = rw (same, past, entry_is) (tied_call starts log.past n call answer (shown links) (shown newer) held.stands.legal told may lists held.tied held.ready);
-      ready = rw (past, entry_is) (ready_call starts log.past n call answer (shown links) (shown newer) told may lists makes held.ready);
+      stands = rw (settled.starts, settled.past) settled.stands;
+      tied = rw (settled.starts, settled.past, made.entry) (tied_call starts log.past n call made.answer (shown links) (shown newer) held.stands.legal told made.may made.lists held.tied held.ready);
+      ready = rw (settled.past, made.entry) (ready_call starts log.past n call made.answer (shown links) (shown newer) told made.may made.lists made.makes held.ready);
       counted = omega (arith, counted, longer);
     }
 
 -- The step is the one that the definition says.
-pub call_is : {L : Type 0} (effect : L → Call → LinkAnswer → L → Type 0) (old : State L) (chip new : Chip) (log after : Log) (links newer : L) (calls place : ℕ) (call : Due) (answer : LinkAnswer)
+pub call_is : {L : Type 0} (effect : L → Call → LinkAnswer → L → Type 0) (shown : L → Shown) (old : State L) (chip new : Chip) (log after : Log) (links newer : L) (calls place : ℕ) (call : Due)
     (w : Option LinkWhat) (does : LinkDid)
-    → state_of chip log links calls ≡ old → due_at (starts_of chip) log.past place ≡ call
-    → may_answer call (offered_length (starts_of chip) log.past (place / 2)) (room_length (starts_of chip) log.past (place / 2)) answer ≡ true
-    → effect links (call_of call (offered (starts_of chip) log.past (place / 2)) (in_flight (starts_of chip) log.past (place / 2)) (room_length (starts_of chip) log.past (place / 2))) answer newer
-    → entry_for (place / 2) w ≡ entry_by (place / 2) (flight (starts_of chip) log.past (place / 2)) call answer → did_for place w ≡ did_at place answer → does ≡ did_for place w
-    → starts_of new ≡ starts_of chip → stop_kept new ≡ None → after.past ≡ entry_for (place / 2) w ∷ log.past → after.limit ≡ log.limit
-    → log.spare_events ≤ after.spare_events + 1
-    → Called effect old place does (state_of new after newer (calls + 1))
-call_is effect old chip new log after links newer calls place call answer w does view is may effects entry says_ did same unstopped past limit events =
-    subst (λ (s : State _). Called effect s place does (state_of new after newer (calls + 1))) view (record {
-      answer = answer;
-      effect = rw is effects;
-      may = rw is may;
-      past = past ∙ ap (λ (e : Entry). e ∷ log.past) (rw is entry);
-      did = did ∙ says_;
+    → state_of chip log links calls ≡ old → Begins (state_of chip log links calls) place call → Here effect shown links (starts_of chip) log.past (place / 2) call w newer
+    → Settled chip new log after (entry_for (place / 2) w) → does ≡ did_for place w → Called (Does effect shown) old place does (state_of new after newer (calls + 1))
+call_is effect shown old chip new log after links newer calls place call w does view begun made settled did =
+    subst (λ (s : State _). Called (Does effect shown) s place does (state_of new after newer (calls + 1))) view (record {
+      answer = made.answer;
+      effect = rw begun.due made.does;
+      may = rw begun.due made.may;
+      past = settled.past ∙ ap (λ (e : Entry). e ∷ log.past) (rw begun.due made.entry);
+      did = did ∙ made.did place;
       calls = refl;
-      limit = limit;
-      stopped = unstopped;
-      starts = same;
-      events = events;
+      limit = settled.limit;
+      stopped = settled.unstopped;
+      starts = settled.starts;
+      events = settled.events;
     })
-
--- What is due, by the fields.
-pub due_inside : {L : Type 0} (old : State L) (chip : Chip) (log : Log) (links : L) (calls place : ℕ) (call : Due) → state_of chip log links calls ≡ old → due_at old.starts old.log.past place ≡ call
-    → due_at (starts_of chip) log.past place ≡ call
-due_inside old chip log links calls place call view is = subst (λ (s : State _). due_at s.starts s.log.past place ≡ call) (sym view) is
-
-pub room_inside : {L : Type 0} (old : State L) (chip : Chip) (log : Log) (links : L) (calls : ℕ) → state_of chip log links calls ≡ old → 1472 ≤ old.log.spare_bytes → 1472 ≤ log.spare_bytes
-room_inside old chip log links calls view room = subst (λ (s : State _). 1472 ≤ s.log.spare_bytes) (sym view) room
-
-not_full : (heavy long : Bool) → (heavy || long) ≡ false → long ≡ false
-not_full true long h = cc
-not_full false long h = h
-
--- A history that is not full has few entries.
-pub short_inside : {L : Type 0} (old : State L) (chip : Chip) (log : Log) (links : L) (calls : ℕ) → state_of chip log links calls ≡ old → IsOpen old → length log.past < 2 ^ 60
-short_inside old chip log links calls view open_ =
-    subst (λ (s : State _). length s.log.past < 2 ^ 60) (sym view)
-    (let most = leb-false MOST_EVENTS (length old.log.past) (not_full (leb old.log.limit (weight_of old.log.past)) (leb MOST_EVENTS (length old.log.past)) open_.room) in omega (arith, most))

@@ -10,9 +10,8 @@ use Rattle.chip_sheet.specs.LinkAnswers.{LinkAnswer, NotYet, Failed, entry_by, m
 use Rattle.link_trait.specs.Calls.{Call}
 use Rattle.chip_shared.specs.State.{State}
 use Rattle.chip_shared.specs.Calling.{Steps, Idles, Called, is_due, places, first_of, first_due, did_at, call_of}
-use Rattle.chip_shared.specs.Draining.{Drains, IsUnstopped, is_out_due}
+use Rattle.chip_shared.specs.Draining.{Drains, is_out_due}
 use Rattle.chip_shared.specs.declared.shared.StepEnd.{StepEnd}
-use Rattle.chip_shared.specs.declared.shared.StepEnd.TheVariants as end
 use Rattle.chip_shared.specs.declared.shared.LinkDid.{LinkDid}
 use Rattle.chip_shared.specs.declared.shared.LinkDid.TheVariants as did
 use Rattle.chip_shared.proofs.Sweeps.{InRow, places_in_row, drop_in_row}
@@ -109,17 +108,9 @@ drain_smaller effect old mid n at few is step =
 pub step_unstopped : {L : Type 0} (effect : L → Call → LinkAnswer → L → Type 0) (old mid : State L) (n : ℕ) (does : LinkDid) → n < 8 → is_out_due old n ≡ true → Steps effect old (2 * n) (Ok does) mid → mid.stopped ≡ None
 step_unstopped effect old mid n does few is step = (out_step effect old mid n does few is step).stopped
 
-pub refused_unstopped : {L : Type 0} (effect : L → Call → LinkAnswer → L → Type 0) (old mid : State L) (from : ℕ) (end_ : StepEnd) → old.stopped ≡ None → Steps effect old from (Err end_) mid → (mid.stopped ≡ None) × IsUnstopped end_
-refused_unstopped effect old mid from (end.Stopped s) clear step = let is = step.1.1 in absurd (let h = sym clear ∙ is in cc)
-refused_unstopped effect old mid from end.TraceFull clear step = (step.1.0 ∙ clear, tt)
-refused_unstopped effect old mid from end.NoMemory clear step = (step.1.0 ∙ clear, tt)
-
 -- What is drained from here was drained from the start.
 abbrev pub DrainsOn : {L : Type 0} → (L → Call → LinkAnswer → L → Type 0) → ℕ → State L → State L → Type 0
 DrainsOn effect n start now = (most : ℕ) (result : Result Bool StepEnd) (new : State _) → Drains effect most n now result new → (all : ℕ) × Drains effect all n start result new
-
-pub drains_start : {L : Type 0} (effect : L → Call → LinkAnswer → L → Type 0) (n : ℕ) (start : State L) → DrainsOn effect n start start
-drains_start effect n start = λ most result new it. (most, it)
 
 pub drains_step : {L : Type 0} (effect : L → Call → LinkAnswer → L → Type 0) (n : ℕ) (start now mid : State L) (at : ℕ) → DrainsOn effect n start now → is_out_due now n ≡ true → Steps effect now (2 * n) (Ok (did.Did at)) mid
     → DrainsOn effect n start mid

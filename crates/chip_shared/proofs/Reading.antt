@@ -1,4 +1,4 @@
--- A read, on plain values: the connection that it needs, what it may be answered, and the chip whose room was read into.
+-- A read, on plain values: what it may be answered, and the chip whose room was read into.
 use Rattle.std.proofs.Common.{◌≡◌, ◌≤◌, ◌<◌, ◌/◌, ℕ, true, leb, List, ◌∷◌, length, take, refl, sym, ap, ◌∙◌, subst, arith}
 use Rattle.std.proofs.lemmas.Bool.{le-leb, and_from}
 use Rattle.std.proofs.lemmas.List.{length-take-le}
@@ -6,48 +6,27 @@ use Rattle.chip_sheet.specs.declared.event.ConnId.{ConnId}
 use Rattle.chip_sheet.specs.declared.event.LinkEntry.{LinkEntry}
 use Rattle.chip_sheet.specs.declared.event.Entry.{Entry}
 use Rattle.chip_sheet.specs.declared.event.Entry.TheVariants.{Link}
-use Rattle.chip_sheet.specs.declared.socket.Due.{Due}
 use Rattle.chip_sheet.specs.declared.socket.Due.TheVariants as due
 use Rattle.chip_sheet.specs.Past.{Past}
-use Rattle.chip_sheet.specs.Life.{status, lives, old}
+use Rattle.chip_sheet.specs.Life.{status}
 use Rattle.chip_sheet.specs.Streams.{Starts, is_open}
 use Rattle.chip_sheet.specs.Windows.{flight, offered_length, room_length}
-use Rattle.chip_sheet.specs.LinkCalls.{due_at, connection, kept_address, fits, one_to}
+use Rattle.chip_sheet.specs.LinkCalls.{due_at, fits, one_to}
 use Rattle.chip_sheet.specs.LinkAnswers.{entry_by, may_answer}
 use Rattle.chip_sheet.specs.Legal.{FitsAfter}
 use Rattle.chip_sheet.proofs.AnswerLaws.{answer_fits}
 use Rattle.chip_core.specs.declared.chip.Chip.{Chip}
 use Rattle.chip_core.specs.Chip.{Stands, fits_here}
-use Rattle.link_trait.specs.Shown.{Shown}
 use Rattle.link_trait.specs.declared.links.Reading.{Reading}
 use Rattle.link_trait.specs.declared.links.Reading.TheVariants as has_read
 use Rattle.link_trait.specs.declared.links.Receiving.{Receiving}
 use Rattle.link_trait.specs.declared.links.Receiving.TheVariants as received
 use Rattle.link_trait.specs.Calls.{reading, receiving, ReadFits, ReceiveFits}
-use Rattle.chip_shared.specs.Tied.{Ready}
-use Rattle.chip_shared.proofs.DueFacts.{Says, says}
-use Rattle.chip_shared.proofs.Windows.{made_here}
-use Rattle.chip_shared.proofs.OneCall.{of_socket}
-
-abbrev Says_of : Starts → Past → ℕ → Due → Type 0
-Says_of starts past n call = Says (status past n) (connection n (lives past n)) (kept_address past n) (flight starts past n) (old past n) call
-
--- A stream that is read, or read and thrown away, is made for the links.
-pub read_made : (starts : Starts) (past : Past) (shown : Shown) (place : ℕ) (c : ConnId) → place < 16 → Ready past shown → due_at starts past place ≡ due.Read c → shown.made c ≡ true
-read_made starts past shown place c few ready is =
-    let n = place / 2 in
-    let told = subst (Says_of starts past n) is (says starts past place) in
-    made_here past shown n c (omega (arith, few)) ready told.0 told.1.0 told.1.1.0 told.1.1.1
-
-pub away_made : (starts : Starts) (past : Past) (shown : Shown) (place : ℕ) (c : ConnId) → place < 16 → Ready past shown → due_at starts past place ≡ due.ReadAway c → shown.made c ≡ true
-away_made starts past shown place c few ready is =
-    let n = place / 2 in
-    let told = subst (Says_of starts past n) is (says starts past place) in
-    made_here past shown n c (omega (arith, few)) ready told.0 told.1.0 told.1.1.0 told.1.1.1
+use Rattle.chip_shared.proofs.DueFacts.{of_socket, told_of}
 
 -- The socket of a stream that is read is open.
 pub read_open : (starts : Starts) (past : Past) (place : ℕ) (c : ConnId) → due_at starts past place ≡ due.Read c → is_open (status past (place / 2)) ≡ true
-read_open starts past place c is = (subst (Says_of starts past (place / 2)) is (says starts past place)).1.0
+read_open starts past place c is = (told_of starts past place (due.Read c) is).1.0
 
 some_of : (count most : ℕ) (bytes : List ℕ) → (1 ≤ count) × (count ≤ length bytes) → length bytes ≡ most → one_to most (length (take count bytes)) ≡ true
 some_of count most bytes fits long =

@@ -2,6 +2,7 @@
 use Rattle.std.specs.Prelude.{◌≡◌, ◌⊎◌, ℕ, ◌≤◌, ◌<◌, ◌+◌, ◌/◌, Bool, true, false, List, [], ◌∷◌, drop, Result, Ok, Err, Option, Some, None, MatchOption, if◌then◌else◌}
 use Rattle.chip_sheet.specs.declared.socket.Due.{Due}
 use Rattle.chip_sheet.specs.declared.socket.Due.TheVariants as due
+use Rattle.chip_sheet.specs.declared.event.Entry.{Entry}
 use Rattle.chip_sheet.specs.declared.event.Entry.TheVariants.{Rest}
 use Rattle.chip_sheet.specs.Past.{Past}
 use Rattle.chip_sheet.specs.Streams.{Starts}
@@ -52,20 +53,33 @@ call_at starts past place =
     let n = place / 2 in
     call_of (due_at starts past place) (offered starts past n) (in_flight starts past n) (room_length starts past n)
 
+-- The call that is due at a place of a state, whether an answer to it may come, and the entry that the answer brings.
+abbrev pub call_now : {L : Type 0} → State L → ℕ → Call
+call_now now place = call_at now.starts now.log.past place
+
+abbrev pub may_now : {L : Type 0} → State L → ℕ → LinkAnswer → Bool
+may_now now place answer =
+    let n = place / 2 in
+    may_answer (due_at now.starts now.log.past place) (offered_length now.starts now.log.past n) (room_length now.starts now.log.past n) answer
+
+abbrev pub entry_now : {L : Type 0} → State L → ℕ → LinkAnswer → Entry
+entry_now now place answer =
+    let n = place / 2 in
+    entry_by n (flight now.starts now.log.past n) (due_at now.starts now.log.past place) answer
+
 -- What a step says of an answer at a place.
 abbrev pub did_at : ℕ → LinkAnswer → LinkDid
 did_at place NotYet = did.NotYet place
 did_at place Failed = did.Fault place
 did_at place answer = did.Did place
 
--- One call was made, that of the place, with its arguments; its answer is one that may come, the entry that it brings stands in the
--- history, and nothing else has changed but the links.
-pub record Called {L : Type 0} (does_so : L → Call → LinkAnswer → L → Type 0) (old : State L) (place : ℕ) (does : LinkDid) (new : State L) : Type 0 where
+-- One call was made, the one that was due at this place; its answer stands in the history, and nothing else has changed but the links.
+pub record Called {L : Type 0} (does : L → Call → LinkAnswer → L → Type 0) (old : State L) (place : ℕ) (told : LinkDid) (new : State L) : Type 0 where
   pub answer : LinkAnswer
-  pub effect : does_so old.links (call_at old.starts old.log.past place) answer new.links
-  pub may : may_answer (due_at old.starts old.log.past place) (offered_length old.starts old.log.past (place / 2)) (room_length old.starts old.log.past (place / 2)) answer ≡ true
-  pub past : new.log.past ≡ entry_by (place / 2) (flight old.starts old.log.past (place / 2)) (due_at old.starts old.log.past place) answer ∷ old.log.past
-  pub did : does ≡ did_at place answer
+  pub effect : does old.links (call_now old place) answer new.links
+  pub may : may_now old place answer ≡ true
+  pub past : new.log.past ≡ entry_now old place answer ∷ old.log.past
+  pub did : told ≡ did_at place answer
   pub calls : new.calls ≡ old.calls + 1
   pub limit : new.log.limit ≡ old.log.limit
   pub stopped : new.stopped ≡ None

@@ -8,4 +8,5 @@ pub mod Causes
 pub mod Sweeping
 pub mod Draining
 pub mod Closing
+pub mod Adding
 pub mod Making

@@ -1,17 +1,10 @@
-//! The calls of link steps, one function a kind: the call is made on what the chip lends, and its answer stands in the history.
-ghost use Rattle.std.specs.Prelude.{◌≡◌, ◌≤◌, ◌<◌, ◌+◌, ◌∷◌, ℕ, true, None, Some, length, MatchOption};
-ghost use Rattle.chip_sheet.specs.Past.{Past, link_entry};
+//! What a call of a link step brought, taken into chip and history; and the steps but those that read into the chip's buffer.
+ghost use Rattle.std.specs.Prelude.{◌≡◌, ◌≤◌, ◌+◌, ◌∷◌, true, None};
+ghost use Rattle.chip_sheet.specs.Past.{Past};
 ghost use Rattle.chip_sheet.specs.Streams.{Starts};
-ghost use Rattle.chip_sheet.specs.LinkCalls.{due_at};
-ghost use Rattle.chip_sheet.specs.Windows.{most_read};
-ghost use Rattle.chip_core.specs.Chip.{Stands, Few, stop_kept, fits_here};
-ghost use Rattle.chip_hist.specs.declared.limits.TheConstants.{MOST_EVENTS, MARGIN};
-ghost use Rattle.chip_hist.specs.Log.{weight_of, entry_data};
+ghost use Rattle.chip_core.specs.Chip.{Stands, stop_kept};
 ghost use Rattle.chip_shared.specs.Entries.{entry_for};
-ghost use Rattle.chip_shared.specs.Calling.{Called};
-ghost use Rattle.chip_shared.specs.Asking.{IsOpen};
-ghost use Rattle.chip_shared.specs.Causes.{Does};
-ghost use Rattle.chip_shared.specs.Making.{IsPlain};
+ghost use Rattle.chip_shared.specs.Adding.{IsReady};
 
 use crate::answers;
 use crate::making::make;
@@ -23,15 +16,8 @@ use chip_sheet::socket::Due;
 use link_trait::links::Links;
 
 /// Takes what the link of a socket did into chip and history; where it did nothing, a turn in which nothing happened into the history.
-pub(crate) fn settle(chip: &mut Chip, history: &mut History, sn: u8, what: Option<LinkWhat<'_>>)
-    requires sn { sn < 8 }
-    requires few { Few chip.old }
-    requires unstopped { stop_kept chip.old ≡ None }
-    requires fits { MatchOption what (Unit {0}) (λ w. fits_here chip.old sn (link_entry w) ≡ true) }
-    requires room { 0 < history.old.spare_events }
-    requires data_room { length (entry_data (entry_for sn what)) ≤ history.old.spare_bytes }
-    requires light { weight_of history.old.past ≤ history.old.limit + MARGIN }
-    requires short { length history.old.past ≤ MOST_EVENTS + MARGIN }
+fn settle(chip: &mut Chip, history: &mut History, sn: u8, what: Option<LinkWhat<'_>>)
+    requires { IsReady chip.old history.old sn what }
     ensures stands { (starts : Starts) (past : Past) → Stands starts chip.old past → Stands starts chip.new (entry_for sn what.entry ∷ past) }
     ensures unstopped { stop_kept chip.new ≡ None }
     ensures past { history.new.past ≡ entry_for sn what.entry ∷ history.old.past }
@@ -49,21 +35,21 @@ pub(crate) fn settle(chip: &mut Chip, history: &mut History, sn: u8, what: Optio
 }
 
 impl<L: Links> Shared<L> {
-    /// Makes a call that is due and reads nothing.
-    pub(crate) fn plain_step(&mut self, place: u8, call: Due) -> LinkDid
-        requires place { place < 16 }
-        requires due { due_at self.old.starts self.old.log.past place ≡ call }
-        requires plain { IsPlain call }
-        requires open_ { IsOpen self.old }
-        requires room { 0 < self.old.log.spare_events }
-        requires data_room { most_read ≤ self.old.log.spare_bytes }
+    ghost use Rattle.chip_shared.specs.Calling.{Called};
+    ghost use Rattle.chip_shared.specs.Causes.{Does};
+    ghost use Rattle.chip_shared.specs.Making.{Begins, is_elsewhere};
+
+    /// Makes a call that is due, but for a read into the chip's buffer.
+    pub(crate) fn make_step(&mut self, place: u8, call: &Due) -> LinkDid
+        requires begins { Begins self.old place call.now }
+        requires elsewhere { is_elsewhere call.now ≡ true }
         ensures called { Called (Does L.effect L.shown) self.old place result self.new }
     {
         laws::short_is_few();
         laws::starts_are();
         laws::fits_agrees();
         let (head, tail) = self.chip.offer(place / 2);
-        let what = make(&mut self.links, call, head, tail);
+        let what = make(&mut self.links, call, head, tail, &mut self.scratch);
         settle(&mut self.chip, &mut self.history, place / 2, what);
         self.calls += 1;
         answers::did(place, &what)

@@ -45,8 +45,7 @@ impl<L: Links> Shared<L> {
         requires { sn < 8 }
         ensures { result ≡ is_out_due self.now sn }
     {
-        let due = self.chip.due(2 * sn);
-        is_due(&due)
+        is_due(&self.due(2 * sn))
     }
 
     /// Whether no byte is in flight on a socket, 0 to 7.

@@ -1,29 +1,29 @@
-//! One call of the links that reads nothing, of whatever kind.
+//! One call of the links, of whatever kind.
 ghost use Rattle.std.specs.Prelude.{◌≡◌, ◌<◌, ◌+◌, ◌++◌, ◌^◌, true, length};
-ghost use Rattle.chip_sheet.specs.declared.event.ConnId.{ConnId};
-ghost use Rattle.chip_sheet.specs.declared.socket.Due.TheVariants as due;
-ghost use Rattle.chip_shared.specs.Making.{IsSmall, IsPlain, Made};
+ghost use Rattle.chip_sheet.specs.Windows.{most_read};
+ghost use Rattle.chip_shared.specs.Making.{Needs, Made, is_elsewhere};
 
 use crate::answers;
 use chip_sheet::event::LinkWhat;
 use chip_sheet::socket::Due;
 use link_trait::links::Links;
 
-/// Makes a call that reads nothing, on these bytes in flight: a stream is offered the first piece, a datagram is both.
+/// Makes a call that is due, but for a read into the chip's buffer: a stream is offered the first piece of the bytes in flight, a
+/// datagram is both; what is read stands at the start of the scratch piece.
 pub(crate) fn make<'a, L: Links>(
     links: &mut L,
-    call: Due,
+    call: &Due,
     head: &[u8],
     tail: &[u8],
+    scratch: &'a mut [u8],
 ) -> Option<LinkWhat<'a>>
-    requires small { IsSmall call }
-    requires plain { IsPlain call }
-    requires some { (c : ConnId) → call ≡ due.Write c → 0 < length head.now }
-    requires made { (c : ConnId) → call ≡ due.Write c → (L.shown links.old).made c ≡ true }
+    requires needs { Needs call.now (L.shown links.old).made (length head.now) }
+    requires elsewhere { is_elsewhere call.now ≡ true }
     requires few { length head.now + length tail.now < 2 ^ 32 }
-    ensures { Made L.effect L.shown links.old call head.now (head.now ++ tail.now) result links.new }
+    requires room { length scratch.old ≡ most_read }
+    ensures { Made L.effect L.shown links.old call.now head.now (head.now ++ tail.now) result links.new }
 {
-    match call {
+    match *call {
         Due::Drop(c) => {
             links.drop_conn(c);
             answers::dropped()
@@ -36,6 +36,14 @@ pub(crate) fn make<'a, L: Links>(
         }
         Due::Shut(c) => answers::shut(links.shut(c)),
         Due::Accept(c, port) => answers::accepted(links.accept(c, port)),
-        Due::Nothing | Due::Read(_) | Due::ReadAway(_) | Due::RecvFrom(_, _) => None,
+        Due::ReadAway(c) => {
+            let answer = links.read(c, scratch);
+            answers::had_read(answer, scratch)
+        }
+        Due::RecvFrom(c, port) => {
+            let answer = links.recv_from(c, port, scratch);
+            answers::received(answer, scratch)
+        }
+        Due::Nothing | Due::Read(_) => unreachable!(),
     }
 }

@@ -1,4 +1,4 @@
-//! The calls of link steps that read: into what the chip lends of its buffer, or into a piece that is thrown away or looked at first.
+//! The link step that reads into what the chip lends of its buffer.
 ghost use Rattle.std.specs.Prelude.{◌≡◌, ◌≤◌, ◌<◌, ◌+◌, ◌∷◌, ℕ, true, None, length};
 ghost use Rattle.chip_sheet.specs.declared.event.ConnId.{ConnId};
 ghost use Rattle.chip_sheet.specs.declared.event.LinkEntry.{LinkEntry};
@@ -6,20 +6,13 @@ ghost use Rattle.chip_sheet.specs.declared.event.Entry.TheVariants.{Link};
 ghost use Rattle.chip_sheet.specs.declared.socket.Due.TheVariants as due;
 ghost use Rattle.chip_sheet.specs.Past.{Past};
 ghost use Rattle.chip_sheet.specs.Streams.{Starts};
-ghost use Rattle.chip_sheet.specs.LinkCalls.{due_at};
 ghost use Rattle.chip_sheet.specs.LinkAnswers.{entry_by};
-ghost use Rattle.chip_sheet.specs.Windows.{most_read};
 ghost use Rattle.chip_core.specs.Chip.{Stands, Few, stop_kept, fits_here, room_len, room_bytes};
-ghost use Rattle.chip_hist.specs.declared.limits.TheConstants.{MOST_EVENTS, MARGIN};
-ghost use Rattle.chip_hist.specs.Log.{weight_of, entry_data};
 ghost use Rattle.link_trait.specs.Calls.{reading, ReadFits};
 ghost use Rattle.chip_shared.specs.Entries.{entry_for};
-ghost use Rattle.chip_shared.specs.Calling.{Called};
-ghost use Rattle.chip_shared.specs.Asking.{IsOpen};
-ghost use Rattle.chip_shared.specs.Causes.{Does};
+ghost use Rattle.chip_shared.specs.Adding.{RoomFor};
 
 use crate::answers;
-use crate::calls::settle;
 use crate::shared::{LinkDid, Shared};
 use chip_core::{Chip, laws};
 use chip_hist::History;
@@ -28,10 +21,7 @@ use link_trait::links::{Links, Reading};
 
 /// Puts what the link of a socket did into the history; where it did nothing, a turn in which nothing happened.
 fn note(history: &mut History, sn: u8, what: Option<LinkWhat<'_>>)
-    requires room { 0 < history.old.spare_events }
-    requires data_room { length (entry_data (entry_for sn what)) ≤ history.old.spare_bytes }
-    requires light { weight_of history.old.past ≤ history.old.limit + MARGIN }
-    requires short { length history.old.past ≤ MOST_EVENTS + MARGIN }
+    requires { RoomFor history.old (entry_for sn what) }
     ensures past { history.new.past ≡ entry_for sn what.entry ∷ history.old.past }
     ensures events { history.old.spare_events ≤ history.new.spare_events + 1 }
     ensures limit { history.new.limit ≡ history.old.limit }
@@ -64,13 +54,13 @@ fn keep(chip: &mut Chip, sn: u8, answer: Reading)
 }
 
 impl<L: Links> Shared<L> {
+    ghost use Rattle.chip_shared.specs.Calling.{Called};
+    ghost use Rattle.chip_shared.specs.Causes.{Does};
+    ghost use Rattle.chip_shared.specs.Making.{Begins};
+
     /// Reads bytes of a stream into what is free of the RX buffer, up to its end.
     pub(crate) fn read_step(&mut self, place: u8, c: ConnId) -> LinkDid
-        requires place { place < 16 }
-        requires due { due_at self.old.starts self.old.log.past place ≡ due.Read c }
-        requires open_ { IsOpen self.old }
-        requires room { 0 < self.old.log.spare_events }
-        requires data_room { most_read ≤ self.old.log.spare_bytes }
+        requires begins { Begins self.old place (due.Read c) }
         ensures called { Called (Does L.effect L.shown) self.old place result self.new }
     {
         laws::short_is_few();
@@ -85,43 +75,5 @@ impl<L: Links> Shared<L> {
         keep(&mut self.chip, place / 2, answer);
         self.calls += 1;
         did
-    }
-
-    /// Reads bytes of a stream whose socket is closing, and throws them away.
-    pub(crate) fn read_away_step(&mut self, place: u8, c: ConnId) -> LinkDid
-        requires place { place < 16 }
-        requires due { due_at self.old.starts self.old.log.past place ≡ due.ReadAway c }
-        requires open_ { IsOpen self.old }
-        requires room { 0 < self.old.log.spare_events }
-        requires data_room { most_read ≤ self.old.log.spare_bytes }
-        ensures called { Called (Does L.effect L.shown) self.old place result self.new }
-    {
-        laws::short_is_few();
-        laws::starts_are();
-        laws::fits_agrees();
-        let answer = self.links.read(c, &mut self.scratch);
-        let what = answers::had_read(answer, &self.scratch);
-        settle(&mut self.chip, &mut self.history, place / 2, what);
-        self.calls += 1;
-        answers::did(place, &what)
-    }
-
-    /// Receives a datagram.
-    pub(crate) fn receive_step(&mut self, place: u8, c: ConnId, port: u16) -> LinkDid
-        requires place { place < 16 }
-        requires due { due_at self.old.starts self.old.log.past place ≡ due.RecvFrom c port }
-        requires open_ { IsOpen self.old }
-        requires room { 0 < self.old.log.spare_events }
-        requires data_room { most_read ≤ self.old.log.spare_bytes }
-        ensures called { Called (Does L.effect L.shown) self.old place result self.new }
-    {
-        laws::short_is_few();
-        laws::starts_are();
-        laws::fits_agrees();
-        let answer = self.links.recv_from(c, port, &mut self.scratch);
-        let what = answers::received(answer, &self.scratch);
-        settle(&mut self.chip, &mut self.history, place / 2, what);
-        self.calls += 1;
-        answers::did(place, &what)
     }
 }

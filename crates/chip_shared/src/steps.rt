@@ -1,16 +1,9 @@
 //! What a step needs before it asks anything, and the first call that is due.
-ghost use Rattle.std.specs.Prelude.{◌≡◌, ◌<◌, ◌≤◌, ◌⊎◌, ℕ, length, true, Some, None, OnOk, IfErr};
-ghost use Rattle.chip_sheet.specs.Past.{Past};
-ghost use Rattle.chip_sheet.specs.Streams.{Starts};
-ghost use Rattle.chip_sheet.specs.LinkCalls.{due_at};
-ghost use Rattle.chip_core.specs.Chip.{Stands};
-ghost use Rattle.chip_sheet.specs.Windows.{most_read};
-ghost use Rattle.chip_shared.specs.Calling.{Called, Steps, first_due, is_due};
-ghost use Rattle.chip_shared.specs.Causes.{Does};
+ghost use Rattle.std.specs.Prelude.{◌≡◌, ◌<◌, ◌≤◌, ◌⊎◌, length, OnOk, IfErr};
 ghost use Rattle.chip_hist.specs.declared.limits.TheConstants.{MOST_EVENTS};
+ghost use Rattle.chip_shared.specs.Calling.{is_due};
 
 use crate::shared::{LinkDid, MOST_READ, Shared, StepEnd};
-use chip_core::Chip;
 use chip_sheet::socket::Due;
 use link_trait::links::Links;
 
@@ -21,23 +14,13 @@ pub(crate) fn is_due(due: &Due) -> bool
     !matches!(due, Due::Nothing)
 }
 
-/// The first place at which a call is due, from a place on, 0 to 15.
-fn first_due(chip: &Chip, from: u8) -> Option<u8>
-    requires { from < 16 }
-    ensures { (starts : Starts) (past : Past) → Stands starts chip.now past → result ≡ first_due starts past from }
-{
-    for place in from..16 {
-        let due = chip.due(place);
-        if is_due(&due) {
-            return Some(place);
-        }
-    }
-    None
-}
-
 impl<L: Links> Shared<L> {
+    ghost use Rattle.chip_sheet.specs.LinkCalls.{due_at};
     ghost use Rattle.chip_shared.specs.State.{Keeps};
     ghost use Rattle.chip_shared.specs.Asking.{IsOpen, Refused};
+    ghost use Rattle.chip_shared.specs.Calling.{Called, Steps};
+    ghost use Rattle.chip_shared.specs.Causes.{Does};
+    ghost use Rattle.chip_shared.specs.Making.{Begins};
 
     /// Makes sure that a step may be made which adds so many events and bytes of data.
     ///
@@ -66,26 +49,22 @@ impl<L: Links> Shared<L> {
         }
     }
 
-    /// Makes the call that is due at a place.
-    fn call(&mut self, place: u8) -> LinkDid
-        requires place { place < 16 }
-        requires due { is_due (due_at self.old.starts self.old.log.past place) ≡ true }
-        requires open_ { IsOpen self.old }
-        requires room { 0 < self.old.log.spare_events }
-        requires data_room { most_read ≤ self.old.log.spare_bytes }
-        ensures called { Called (Does L.effect L.shown) self.old place result self.new }
+    /// The call that is due at a place, 0 to 15.
+    pub(crate) fn due(&self, place: u8) -> Due
+        requires { place < 16 }
+        ensures { result ≡ due_at self.now.starts self.now.log.past place }
     {
-        match self.chip.due(place) {
-            Due::Nothing => LinkDid::Idle,
-            Due::Drop(c) => self.plain_step(place, Due::Drop(c)),
-            Due::Connect(c, to) => self.plain_step(place, Due::Connect(c, to)),
-            Due::Write(c) => self.plain_step(place, Due::Write(c)),
-            Due::SendTo(c, port, to) => self.plain_step(place, Due::SendTo(c, port, to)),
-            Due::Shut(c) => self.plain_step(place, Due::Shut(c)),
-            Due::Accept(c, port) => self.plain_step(place, Due::Accept(c, port)),
+        self.chip.due(place)
+    }
+
+    /// Makes the call that is due at a place.
+    fn call(&mut self, place: u8, due: &Due) -> LinkDid
+        requires { Begins self.old place due.now }
+        ensures { Called (Does L.effect L.shown) self.old place result self.new }
+    {
+        match *due {
             Due::Read(c) => self.read_step(place, c),
-            Due::ReadAway(c) => self.read_away_step(place, c),
-            Due::RecvFrom(c, port) => self.receive_step(place, c, port),
+            _ => self.make_step(place, due),
         }
     }
 
@@ -103,12 +82,13 @@ impl<L: Links> Shared<L> {
         if let Err(end) = self.ready(1, MOST_READ as u64) {
             return Err(end);
         }
-        match first_due(&self.chip, from) {
-            None => {
-                self.rest();
-                Ok(LinkDid::Idle)
+        for place in from..16 {
+            let due = self.due(place);
+            if is_due(&due) {
+                return Ok(self.call(place, &due));
             }
-            Some(place) => Ok(self.call(place)),
         }
+        self.rest();
+        Ok(LinkDid::Idle)
     }
 }

@@ -1,4 +1,4 @@
-use Rattle.std.proofs.Common.{◌≡◌, ◌+◌, ◌++◌, ◌∙◌, ℕ, true, length, length-append, refl, sym, ap}
+use Rattle.std.proofs.Common.{◌≡◌, ◌++◌, ◌∙◌, ℕ, true, length, length-append, refl, sym, ap, subst}
 use Rattle.chip_sheet.specs.declared.event.Addr.{Addr}
 use Rattle.chip_sheet.specs.declared.event.ConnId.{ConnId}
 use Rattle.chip_sheet.specs.declared.socket.Due.TheVariants as due
@@ -9,8 +9,10 @@ use Rattle.link_trait.specs.declared.links.Linking.{Linking}
 use Rattle.link_trait.specs.declared.links.Linking.TheVariants as links
 use Rattle.link_trait.specs.declared.links.Shutting.{Shutting}
 use Rattle.link_trait.specs.declared.links.Shutting.TheVariants as shuts
-use Rattle.link_trait.specs.Calls.{accepting, linking, sending, shutting, writing}
+use Rattle.link_trait.specs.Calls.{Read, RecvFrom, accepting, linking, reading, receiving, sending, shutting, writing}
+use Rattle.link_trait.specs.Shown.{Counts, Lists, Makes}
 use Rattle.chip_shared.proofs.Offers.{send_may, write_may}
+use Rattle.chip_shared.proofs.Reading.{away_may, receive_may}
 use Rattle.chip_shared.proofs.making.make.Goals as goal
 
 connect_may : (c : ConnId) (to : Addr) (answer : Linking) (offered room : ℕ) → may_answer (due.Connect c to) offered room (linking answer) ≡ true
@@ -94,4 +96,32 @@ returns-in-Accept g c = rw c.in-Accept.is (record {
   may = λ room. accept_may c.in-Accept.c c.in-Accept.port c.accept.result (length c.args.head.now) room;
   entry = λ n. c.accepted.ensures.entry n (length (c.args.head.now ++ c.args.tail.now)) c.in-Accept.c c.in-Accept.port;
   did = c.accepted.ensures.did;
+})
+
+pub returns-in-ReadAway : goal.returns-in-ReadAway
+returns-in-ReadAway g c = rw c.in-ReadAway.is (record {
+  answer = reading c.read-answer.result c.read-answer.new.buf;
+  does = λ room. record {
+    so = subst (λ (k : ℕ). g.L.Links.effect c.args.links.now (Read c.in-ReadAway.c k) (reading c.read-answer.result c.read-answer.new.buf) c.read-answer.new.self) c.requires.room c.read-answer.ensures.effect;
+    counts = subst (λ (k : ℕ). Counts (g.L.Links.shown c.args.links.now) (Read c.in-ReadAway.c k) (reading c.read-answer.result c.read-answer.new.buf) (g.L.Links.shown c.read-answer.new.self)) c.requires.room c.read-answer.ensures.counts;
+  };
+  lists = λ room. subst (λ (k : ℕ). Lists (g.L.Links.shown c.args.links.now) (Read c.in-ReadAway.c k) (reading c.read-answer.result c.read-answer.new.buf) (g.L.Links.shown c.read-answer.new.self)) c.requires.room c.read-answer.ensures.lists;
+  makes = λ room. subst (λ (k : ℕ). Makes (g.L.Links.shown c.args.links.now) (Read c.in-ReadAway.c k) (reading c.read-answer.result c.read-answer.new.buf) (g.L.Links.shown c.read-answer.new.self)) c.requires.room c.read-answer.ensures.makes;
+  may = λ room. away_may c.in-ReadAway.c (length c.args.head.now) room c.read-answer.result c.read-answer.new.buf c.read-answer.ensures.fits (c.read-answer.auto.buf ∙ c.requires.room);
+  entry = λ n. c.had_read.ensures.away n (length (c.args.head.now ++ c.args.tail.now)) c.in-ReadAway.c;
+  did = c.had_read.ensures.did;
+})
+
+pub returns-in-RecvFrom : goal.returns-in-RecvFrom
+returns-in-RecvFrom g c = rw c.in-RecvFrom.is (record {
+  answer = receiving c.recv_from-answer.result c.recv_from-answer.new.buf;
+  does = λ room. record {
+    so = subst (λ (k : ℕ). g.L.Links.effect c.args.links.now (RecvFrom c.in-RecvFrom.c c.in-RecvFrom.port k) (receiving c.recv_from-answer.result c.recv_from-answer.new.buf) c.recv_from-answer.new.self) c.requires.room c.recv_from-answer.ensures.effect;
+    counts = subst (λ (k : ℕ). Counts (g.L.Links.shown c.args.links.now) (RecvFrom c.in-RecvFrom.c c.in-RecvFrom.port k) (receiving c.recv_from-answer.result c.recv_from-answer.new.buf) (g.L.Links.shown c.recv_from-answer.new.self)) c.requires.room c.recv_from-answer.ensures.counts;
+  };
+  lists = λ room. subst (λ (k : ℕ). Lists (g.L.Links.shown c.args.links.now) (RecvFrom c.in-RecvFrom.c c.in-RecvFrom.port k) (receiving c.recv_from-answer.result c.recv_from-answer.new.buf) (g.L.Links.shown c.recv_from-answer.new.self)) c.requires.room c.recv_from-answer.ensures.lists;
+  makes = λ room. subst (λ (k : ℕ). Makes (g.L.Links.shown c.args.links.now) (RecvFrom c.in-RecvFrom.c c.in-RecvFrom.port k) (receiving c.recv_from-answer.result c.recv_from-answer.new.buf) (g.L.Links.shown c.recv_from-answer.new.self)) c.requires.room c.recv_from-answer.ensures.makes;
+  may = λ room. receive_may c.in-RecvFrom.c c.in-RecvFrom.port (length c.args.head.now) room c.recv_from-answer.result c.recv_from-answer.new.buf c.recv_from-answer.ensures.fits (c.recv_from-answer.auto.buf ∙ c.requires.room);
+  entry = λ n. c.received.ensures.entry n (length (c.args.head.now ++ c.args.tail.now)) c.in-RecvFrom.port c.in-RecvFrom.c;
+  did = c.received.ensures.did;
 })
