@@ -11,6 +11,7 @@ use Rattle.chip_sheet.specs.Life.{status, lives, status_code}
 use Rattle.chip_sheet.specs.Streams.{Starts}
 use Rattle.chip_sheet.specs.Connections.{sent_in_all, taken_in_all, got_in_all}
 use Rattle.chip_sheet.specs.declared.phase.Access.{Access}
+use Rattle.chip_sheet.specs.declared.phase.Access.TheVariants.{Read}
 use Rattle.chip_sheet.specs.Answers.{answer, byte_out}
 use Rattle.chip_sheet.specs.Stops.{stop}
 use Rattle.chip_sheet.specs.Legal.{Legal}
@@ -46,6 +47,14 @@ pub record Exchanged (starts : Starts) (past : Past) (e : BusEvent) (a : BusAnsw
   pub byte : out ≡ byte_out starts past made
   pub parts : Holds starts new.parts (Bus e a ∷ past)
   pub counts : AllCounted starts new.counts (Bus e a ∷ past)
+
+-- Where accesses of the old chip reach what this past leaves, the event is exchanged.
+abbrev pub Exchanges : Starts → Past → BusEvent → BusAnswer → Access → ℕ → Chip → Chip → Type 0
+Exchanges starts past e a made out old new = Inside starts old past → Exchanged starts past e a made out new
+
+-- The event that reads this address of a block has no stop, and its byte on MISO is this.
+abbrev pub ReadsOut : Starts → Past → BusEvent → (block addr out : ℕ) → Type 0
+ReadsOut starts past e block addr out = (stop starts past e ≡ None) × (out ≡ byte_out starts past (Read block addr))
 
 -- Where the positions of this chip's connections start.
 abbrev pub starts_of : Chip → Starts

@@ -11,7 +11,7 @@ ghost use Rattle.chip_sheet.specs.Frames.{access};
 ghost use Rattle.chip_sheet.specs.Life.{status};
 ghost use Rattle.chip_sheet.specs.Streams.{Starts, is_open};
 ghost use Rattle.chip_sheet.specs.Windows.{in_flight, offered_length, room_length};
-ghost use Rattle.chip_sheet.specs.Answers.{idle_byte, byte_out};
+ghost use Rattle.chip_sheet.specs.Answers.{idle_byte};
 ghost use Rattle.chip_sheet.specs.Stops.{stop};
 ghost use Rattle.chip_sheet.specs.LinkCalls.{due_at};
 ghost use Rattle.chip_core.specs.Accesses.{IsWithin};
@@ -47,7 +47,7 @@ pub struct Chip {
 }
 
 impl Chip {
-    ghost use Rattle.chip_core.specs.Chip.{Stands, Few, Answered, Stopped, Inside, Exchanged, stop_kept, starts_of, fits_here, room_len, room_bytes, LendsRoom, tally_at};
+    ghost use Rattle.chip_core.specs.Chip.{Stands, Few, Answered, Stopped, Inside, stop_kept, starts_of, fits_here, room_len, room_bytes, LendsRoom, tally_at, Exchanges, ReadsOut};
 
     /// The chip after power-on, which stands for the empty history. The positions of what a connection sends begin at `tx_start`, and
     /// those of what it receives at `rx_start`. No later call takes memory.
@@ -133,7 +133,7 @@ impl Chip {
     fn exchange(&mut self, made: Access, idle: u8) -> Result<u8, ChipStop>
         requires few { Few self.old }
         requires within { IsWithin made }
-        ensures ok { IfOk result (λ out. (starts : Starts) (past : Past) (e : BusEvent) (a : BusAnswer) → access past e ≡ made → idle ≡ idle_byte past → Inside starts self.old past → Exchanged starts past e a made out self.new) }
+        ensures ok { IfOk result (λ out. (starts : Starts) (past : Past) (e : BusEvent) (a : BusAnswer) → access past e ≡ made → idle ≡ idle_byte past → Exchanges starts past e a made out self.old self.new) }
         ensures err { IfErr result (λ s. (self.new ≡ self.old) × ((starts : Starts) (past : Past) (e : BusEvent) → access past e ≡ made → Inside starts self.old past → stop starts past e ≡ Some s)) }
         ensures same { self.new ≡ record self.old { parts = self.new.parts; counts = self.new.counts } }
     {
@@ -148,7 +148,7 @@ impl Chip {
     // Reads a byte of a block.
     fn read(&self, block: u8, addr: u16) -> Result<u8, ChipStop>
         requires { block < 32 }
-        ensures ok { IfOk result (λ out. (starts : Starts) (past : Past) (e : BusEvent) → access past e ≡ Read block addr → Inside starts self.now past → (stop starts past e ≡ None) × (out ≡ byte_out starts past (Read block addr))) }
+        ensures ok { IfOk result (λ out. (starts : Starts) (past : Past) (e : BusEvent) → access past e ≡ Read block addr → Inside starts self.now past → ReadsOut starts past e block addr out) }
         ensures err { IfErr result (λ s. (starts : Starts) (past : Past) (e : BusEvent) → access past e ≡ Read block addr → stop starts past e ≡ Some s) }
     {
         if is_reserved(block) {
@@ -161,7 +161,7 @@ impl Chip {
     fn write(&mut self, block: u8, addr: u16, v: u8) -> Result<u8, ChipStop>
         requires block { block < 32 }
         requires few { Few self.old }
-        ensures ok { IfOk result (λ out. (starts : Starts) (past : Past) (e : BusEvent) (a : BusAnswer) → access past e ≡ Write block addr v → Inside starts self.old past → Exchanged starts past e a (Write block addr v) out self.new) }
+        ensures ok { IfOk result (λ out. (starts : Starts) (past : Past) (e : BusEvent) (a : BusAnswer) → access past e ≡ Write block addr v → Exchanges starts past e a (Write block addr v) out self.old self.new) }
         ensures err { IfErr result (λ s. (self.new ≡ self.old) × ((starts : Starts) (past : Past) (e : BusEvent) → access past e ≡ Write block addr v → Inside starts self.old past → stop starts past e ≡ Some s)) }
         ensures same { self.new ≡ record self.old { parts = self.new.parts; counts = self.new.counts } }
     {

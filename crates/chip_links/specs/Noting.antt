@@ -14,7 +14,7 @@ use Rattle.chip_sheet.specs.Sending as sends
 use Rattle.chip_sheet.specs.Sending.{Sending}
 use Rattle.chip_sheet.specs.Receiving as receives
 use Rattle.chip_sheet.specs.Receiving.{Receiving}
-use Rattle.chip_sheet.specs.Interrupts.{bit_value, raised_by_life}
+use Rattle.chip_sheet.specs.Interrupts.{bit_value, interrupts_by, raised_by_life}
 use Rattle.chip_sheet.specs.Life.{happening}
 use Rattle.sock_regs.specs.Places.{after_peer}
 use Rattle.sock_cmd.specs.declared.life.Life.{Life}
@@ -66,3 +66,10 @@ pub record Noted (starts : Starts) (past : Past) (what : LinkEntry) (sn : ℕ) (
   pub shows : Shows starts new (Link sn what ∷ past)
   pub life : (other : Life) → IsAfter (slice_index_or new.lives sn other) (Link sn what ∷ past) sn
   pub other_lives : (m : ℕ) (other : Life) → m ≢ sn → slice_index_or new.lives m other ≡ slice_index_or old.lives m other
+
+-- Where the old parts show the registers and SIR of this past and keep the life of socket sn, and the event raises these bits of it, the
+-- new parts are noted.
+abbrev pub NotesAt : Starts → Past → LinkEntry → (sn bits : ℕ) → Parts → Parts → Type 0
+NotesAt starts past what sn bits old new =
+    Shows starts old past → ((other : Life) → IsAfter (slice_index_or old.lives sn other) past sn) → bits ≡ interrupts_by starts past sn (Link sn what)
+    → Noted starts past what sn old new

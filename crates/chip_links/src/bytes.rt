@@ -1,7 +1,6 @@
 //! The bytes that are offered to a link, and the room into which it reads.
-ghost use Rattle.std.specs.Prelude.{◌≡◌, ◌≤◌, ◌<◌, ◌++◌, ◌∷◌, length, take, true};
+ghost use Rattle.std.specs.Prelude.{◌≡◌, ◌≤◌, ◌<◌, ◌++◌, length, true};
 ghost use Rattle.std.specs.Borrow.{sem};
-ghost use Rattle.chip_sheet.specs.declared.event.Entry.TheVariants.{Link};
 ghost use Rattle.chip_sheet.specs.declared.event.LinkEntry.TheVariants.{Got};
 ghost use Rattle.chip_sheet.specs.Past.{Past};
 ghost use Rattle.chip_sheet.specs.Life.{status};
@@ -11,8 +10,8 @@ ghost use Rattle.chip_sheet.specs.LinkCalls.{fits};
 ghost use Rattle.chip_sheet.specs.Legal.{Legal};
 ghost use Rattle.ring_mem.specs.Buffers.{room_len};
 ghost use Rattle.chip_parts.specs.Holding.{Holds};
-ghost use Rattle.chip_links.specs.Lent.{room_bytes, LendsRoom};
-ghost use Rattle.chip_links.specs.Coming.{came};
+ghost use Rattle.chip_links.specs.Lent.{room_bytes, got_of, LendsRoom};
+ghost use Rattle.chip_links.specs.Coming.{came, TakesEvent};
 
 use crate::notes::{self, RECEIVED};
 use chip_parts::parts::Parts;
@@ -44,10 +43,9 @@ pub fn room(parts: &mut Parts, sn: u8) -> &mut [u8]
 pub fn filled(parts: &mut Parts, sn: u8, k: u32) -> usize
     requires sn { sn < 8 }
     requires few { k ≤ room_len parts.old.rings sn }
-    ensures holds { (starts : Starts) (past : Past) → Legal starts past → Holds starts parts.old past → fits starts past sn (Got (take k (room_bytes parts.old sn))) ≡ true
-        → Holds starts parts.new (Link sn (Got (take k (room_bytes parts.old sn))) ∷ past) }
-    ensures came { (starts : Starts) (past : Past) → Legal starts past → Holds starts parts.old past → fits starts past sn (Got (take k (room_bytes parts.old sn))) ≡ true
-        → result ≡ came starts past sn (Got (take k (room_bytes parts.old sn))) }
+    ensures holds { TakesEvent parts.old sn (got_of parts.old sn k) parts.new }
+    ensures came { (starts : Starts) (past : Past) → Legal starts past → Holds starts parts.old past → fits starts past sn (got_of parts.old sn k) ≡ true
+        → result ≡ came starts past sn (got_of parts.old sn k) }
 {
     if parts.lives[sn as usize].is_established() {
         parts.rings.filled(sn, k);

@@ -13,7 +13,7 @@ ghost use Rattle.ring_mem.specs.Buffers.{TxHolds, RxHolds, OthersSend, OthersRec
 ghost use Rattle.chip_parts.specs.Holding.{Holds};
 ghost use Rattle.chip_links.specs.Noting.{is_told, sent_kept, got_kept};
 ghost use Rattle.chip_links.specs.Fitting.{no_life, fits_here};
-ghost use Rattle.chip_links.specs.Coming.{came};
+ghost use Rattle.chip_links.specs.Coming.{came, TakesEvent};
 
 use crate::calls::life_at;
 use crate::notes::{self, RECEIVED, SEND_OK};
@@ -58,8 +58,7 @@ fn keep(rings: &mut Rings, sn: u8, live: bool)
 fn made(parts: &mut Parts, sn: u8, e: &LinkWhat<'_>)
     requires sn { sn < 8 }
     requires made { makes (link_entry e.now) ≡ true }
-    ensures { (starts : Starts) (past : Past) → Legal starts past → Holds starts parts.old past → fits starts past sn (link_entry e.now) ≡ true
-        → Holds starts parts.new (Link sn (link_entry e.now) ∷ past) }
+    ensures { TakesEvent parts.old sn (link_entry e.now) parts.new }
 {
     let bits = notes::life_bits(e, parts.lives[sn as usize].state());
     parts.rings.begin(sn, parts.tx_start, parts.rx_start);
@@ -89,8 +88,7 @@ fn send_ok(passed: bool) -> u8
 fn took(parts: &mut Parts, sn: u8, count: u32)
     requires sn { sn < 8 }
     requires few { count ≤ flight_of parts.old.rings sn }
-    ensures { (starts : Starts) (past : Past) → Legal starts past → Holds starts parts.old past → fits starts past sn (Took count) ≡ true
-        → Holds starts parts.new (Link sn (Took count) ∷ past) }
+    ensures { TakesEvent parts.old sn (Took count) parts.new }
 {
     let bits = send_ok(parts.rings.taken(sn, count));
     notes::note(parts, sn, &LinkWhat::Took(count), bits);
@@ -101,8 +99,7 @@ fn took(parts: &mut Parts, sn: u8, count: u32)
 fn got(parts: &mut Parts, sn: u8, bytes: &[u8]) -> usize
     requires sn { sn < 8 }
     requires few { is_established (life_of (slice_index_or parts.old.lives sn no_life)).status ≡ true → length bytes.now ≤ rx_free parts.old.rings sn }
-    ensures holds { (starts : Starts) (past : Past) → Legal starts past → Holds starts parts.old past → fits starts past sn (Got bytes.now) ≡ true
-        → Holds starts parts.new (Link sn (Got bytes.now) ∷ past) }
+    ensures holds { TakesEvent parts.old sn (Got bytes.now) parts.new }
     ensures came { (starts : Starts) (past : Past) → Holds starts parts.old past → result ≡ came starts past sn (Got bytes.now) }
 {
     if life_at(&parts.lives, sn).is_established() {
@@ -119,8 +116,7 @@ fn got(parts: &mut Parts, sn: u8, bytes: &[u8]) -> usize
 /// Answers how many bytes were put.
 fn datagram(parts: &mut Parts, sn: u8, from: Addr, body: &[u8]) -> usize
     requires { sn < 8 }
-    ensures holds { (starts : Starts) (past : Past) → Legal starts past → Holds starts parts.old past → fits starts past sn (Datagram from body.now) ≡ true
-        → Holds starts parts.new (Link sn (Datagram from body.now) ∷ past) }
+    ensures holds { TakesEvent parts.old sn (Datagram from body.now) parts.new }
     ensures came { (starts : Starts) (past : Past) → Holds starts parts.old past → result ≡ came starts past sn (Datagram from body.now) }
 {
     let len = HEADER + body.len();

@@ -1,16 +1,11 @@
 //! What a link event makes of the registers and the life of its socket, and of SIR.
-ghost use Rattle.std.specs.Prelude.{◌≡◌, ◌<◌, ℕ, slice_index_or};
+ghost use Rattle.std.specs.Prelude.{◌≡◌, ◌<◌, ℕ};
 ghost use Rattle.chip_sheet.specs.declared.event.LinkEntry.{LinkEntry};
-ghost use Rattle.chip_sheet.specs.declared.event.Entry.TheVariants.{Link};
 ghost use Rattle.chip_sheet.specs.Past.{Past, link_entry};
 ghost use Rattle.chip_sheet.specs.Life.{happening};
 ghost use Rattle.chip_sheet.specs.Streams.{Starts};
-ghost use Rattle.chip_sheet.specs.Interrupts.{interrupts_by};
 ghost use Rattle.sock_regs.specs.Holding.{Reads};
-ghost use Rattle.sock_cmd.specs.declared.life.Life.{Life};
-ghost use Rattle.sock_cmd.specs.Lives.{IsAfter};
-ghost use Rattle.chip_parts.specs.Holding.{Shows};
-ghost use Rattle.chip_links.specs.Noting.{life_bits, peer_of, with_peer, SameToLife, Noted};
+ghost use Rattle.chip_links.specs.Noting.{life_bits, peer_of, with_peer, SameToLife, NotesAt};
 
 use chip_parts::parts::Parts;
 use chip_sheet::event::LinkWhat;
@@ -61,8 +56,7 @@ fn take_peer(registers: &mut SockRegs, e: &LinkWhat<'_>)
 /// and SIR follows.
 pub(crate) fn note(parts: &mut Parts, sn: u8, e: &LinkWhat<'_>, bits: u8)
     requires { sn < 8 }
-    ensures notes { (starts : Starts) (past : Past) (what : LinkEntry) → SameToLife what (link_entry e.now) → Shows starts parts.old past
-        → ((other : Life) → IsAfter (slice_index_or parts.old.lives sn other) past sn) → bits ≡ interrupts_by starts past sn (Link sn what) → Noted starts past what sn parts.old parts.new }
+    ensures notes { (starts : Starts) (past : Past) (what : LinkEntry) → SameToLife what (link_entry e.now) → NotesAt starts past what sn bits parts.old parts.new }
     ensures same { parts.new ≡ record parts.old { registers = parts.new.registers; lives = parts.new.lives; sir = parts.new.sir } }
 {
     parts.lives[sn as usize].link_event(e);

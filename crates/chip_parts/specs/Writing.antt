@@ -5,6 +5,7 @@ use Rattle.board_bus.specs.declared.event.BusAnswer.{BusAnswer}
 use Rattle.chip_sheet.specs.declared.event.Entry.TheVariants.{Bus}
 use Rattle.chip_sheet.specs.declared.phase.Access.TheVariants.{Write}
 use Rattle.chip_sheet.specs.declared.stop.ChipStop.{ChipStop}
+use Rattle.chip_sheet.specs.declared.socket.Cause.{Cause}
 use Rattle.chip_sheet.specs.Past.{Past}
 use Rattle.chip_sheet.specs.Frames.{access}
 use Rattle.chip_sheet.specs.Blocks.{registers_of}
@@ -63,3 +64,7 @@ StepsRegisters old sn addr v bits new =
 -- The life that the parts keep of socket sn is that which this past leaves.
 abbrev pub HasLife : Parts → ℕ → Past → Type 0
 HasLife parts sn past = (other : Life) → IsAfter (slice_index_or parts.lives sn other) past sn
+
+-- The event has no stop, passes so many bytes to SEND on socket sn where it is this for it, and leaves these parts.
+abbrev pub Passes : ℕ → ℕ → Cause → Parts → Starts → Past → BusEvent → BusAnswer → Type 0
+Passes sn k why new starts past e a = (stop starts past e ≡ None) × (k ≡ passed starts past sn why) × Holds starts new (Bus e a ∷ past)

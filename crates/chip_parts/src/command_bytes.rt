@@ -1,5 +1,5 @@
 //! The whole of a write to Sn_CR.
-ghost use Rattle.std.specs.Prelude.{◌≡◌, ◌<◌, ◌^◌, slice_index_or, IfOk, IfErr, None, ◌∷◌};
+ghost use Rattle.std.specs.Prelude.{◌≡◌, ◌<◌, ◌^◌, slice_index_or, IfOk, IfErr};
 ghost use Rattle.chip_sheet.specs.declared.event.Entry.TheVariants.{Bus};
 ghost use Rattle.chip_sheet.specs.Names.{sn_cr};
 ghost use Rattle.chip_sheet.specs.Blocks.{registers_of};
@@ -13,8 +13,7 @@ use crate::sending::{RECV, SEND};
 use chip_sheet::stop::ChipStop;
 
 impl Parts {
-    ghost use Rattle.chip_parts.specs.Holding.{Holds};
-    ghost use Rattle.chip_parts.specs.Writing.{AtLegalByte, RefusesLegal};
+    ghost use Rattle.chip_parts.specs.Writing.{Passes, AtLegalByte, RefusesLegal};
     ghost use Rattle.chip_parts.specs.Passing.{passed};
 
     /// Takes a byte written to Sn_CR, of any value. Answers how many bytes were passed to SEND, at most 16,384; 0 of any other command.
@@ -26,7 +25,7 @@ impl Parts {
         requires sn { sn < 8 }
         requires few { (other : Life) → (life_of (slice_index_or self.old.lives sn other)).lives < 2 ^ 60 }
         ensures ok { IfOk result (λ k. AtLegalByte self.old (registers_of sn) sn_cr v (λ starts past e a.
-            (stop starts past e ≡ None) × (k ≡ passed starts past sn (cause past sn (Bus e a))) × Holds starts self.new (Bus e a ∷ past))) }
+            Passes sn k (cause past sn (Bus e a)) self.new starts past e a)) }
         ensures err { IfErr result (λ s. (self.new ≡ self.old) × RefusesLegal self.old (registers_of sn) sn_cr v s) }
     {
         if v == SEND {

@@ -1,12 +1,10 @@
 //! The parts of the chip that its accesses and its link events reach.
-ghost use Rattle.std.specs.Prelude.{◌≡◌, ◌≢◌, ◌<◌, ◌^◌, slice_index_or, IfOk, IfErr, OnOk, Some, [], ◌∷◌, false};
+ghost use Rattle.std.specs.Prelude.{◌≡◌, ◌≢◌, ◌<◌, ◌^◌, slice_index_or, IfOk, IfErr, OnOk, Some, [], ◌∷◌};
 ghost use Rattle.chip_sheet.specs.declared.event.Entry.TheVariants.{Bus};
 ghost use Rattle.chip_sheet.specs.Past.{Past};
-ghost use Rattle.chip_sheet.specs.Frames.{access};
 ghost use Rattle.chip_sheet.specs.Names.{sn_cr, send_command, recv_command};
 ghost use Rattle.sock_cmd.specs.declared.life.Life.{Life};
 ghost use Rattle.sock_cmd.specs.Lives.{life_of};
-ghost use Rattle.chip_sheet.specs.Sizes.{tx_sizes, rx_sizes, resizes};
 ghost use Rattle.chip_sheet.specs.Streams.{Starts};
 ghost use Rattle.chip_sheet.specs.Legal.{Legal};
 ghost use Rattle.chip_sheet.specs.Sending.{Sending};
@@ -83,6 +81,7 @@ pub struct Parts {
 
 impl Parts {
     ghost use Rattle.chip_parts.specs.Holding.{Holds, Found};
+    ghost use Rattle.chip_steps.specs.Steps.{KeepsTxSizes, KeepsRxSizes};
     ghost use Rattle.chip_parts.specs.Writing.{AtByte, AtLegalByte, Goes, Refuses, RefusesLegal, StepsRegisters};
 
     /// The parts after power-on.
@@ -166,8 +165,8 @@ impl Parts {
     /// Writes a byte of the register block of a socket that is neither a command nor another size of a buffer.
     pub(crate) fn write_plain(&mut self, sn: u8, addr: u16, v: u8)
         requires { sn < 8 }
-        ensures { AtByte self.old (registers_of sn) addr v (λ starts past e a. addr ≢ sn_cr
-            → resizes past tx_sizes (access past e) ≡ false → resizes past rx_sizes (access past e) ≡ false → Holds starts self.new (Bus e a ∷ past)) }
+        ensures { AtByte self.old (registers_of sn) addr v (λ starts past e a. addr ≢ sn_cr → KeepsTxSizes past (Bus e a) → KeepsRxSizes past (Bus e a)
+            → Holds starts self.new (Bus e a ∷ past)) }
     {
         self.rings.set_pointer(sn, addr, v);
         self.step_registers(sn, addr, v, 0);

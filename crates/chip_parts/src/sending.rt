@@ -41,7 +41,7 @@ fn bit_where(raised: bool, bit: u8) -> u8
 
 impl Parts {
     ghost use Rattle.chip_parts.specs.Holding.{Holds, Found};
-    ghost use Rattle.chip_parts.specs.Writing.{AtLegalByte, Goes, RefusesLegal, StepsRegisters, HasLife};
+    ghost use Rattle.chip_parts.specs.Writing.{Passes, AtLegalByte, Goes, RefusesLegal, StepsRegisters, HasLife};
     ghost use Rattle.chip_parts.specs.Passing.{passed};
 
     /// Takes a command that has no stop but those of the buffers, which have taken it before: in the life and in the registers of a
@@ -77,8 +77,7 @@ impl Parts {
     pub(crate) fn send(&mut self, sn: u8) -> Result<u32, ChipStop>
         requires sn { sn < 8 }
         requires few { (other : Life) → (life_of (slice_index_or self.old.lives sn other)).lives < 2 ^ 60 }
-        ensures ok { IfOk result (λ k. AtLegalByte self.old (registers_of sn) sn_cr send_command (λ starts past e a.
-            (stop starts past e ≡ None) × (k ≡ passed starts past sn because.Send) × Holds starts self.new (Bus e a ∷ past))) }
+        ensures ok { IfOk result (λ k. AtLegalByte self.old (registers_of sn) sn_cr send_command (Passes sn k because.Send self.new)) }
         ensures err { IfErr result (λ s. (self.new ≡ self.old) × RefusesLegal self.old (registers_of sn) sn_cr send_command s) }
     {
         let at = self.command_at(sn);
