@@ -6,7 +6,7 @@ use Rattle.chip_sheet.specs.declared.event.ConnId.{ConnId}
 use Rattle.chip_sheet.specs.declared.event.LinkEntry.{LinkEntry}
 use Rattle.chip_sheet.specs.declared.event.LinkEntry.TheVariants.{Took, Got, Datagram}
 use Rattle.chip_sheet.specs.declared.socket.Status.{Status}
-use Rattle.chip_sheet.specs.declared.socket.Status.TheVariants.{Established, FinWait, CloseWait, LastAck, Udp}
+use Rattle.chip_sheet.specs.declared.socket.Status.TheVariants.{Established}
 use Rattle.chip_sheet.specs.declared.socket.Due.{Due}
 use Rattle.chip_sheet.specs.declared.socket.Due.TheVariants as due
 use Rattle.chip_sheet.specs.Past.{Past}
@@ -14,22 +14,14 @@ use Rattle.chip_sheet.specs.Life as sheet
 use Rattle.chip_sheet.specs.Connections.{carries}
 use Rattle.chip_sheet.specs.Streams.{Starts, is_open, is_established, has_place}
 use Rattle.chip_sheet.specs.Windows.{flight, rx_free, most_read}
-use Rattle.chip_sheet.specs.LinkCalls.{answers_call, outgoing_in, incoming_in, outgoing_of, incoming_of, outgoing, incoming, connection, fits_either, fits, kept_address, kept_port}
+use Rattle.chip_sheet.specs.LinkCalls.{answers_call, outgoing_in, incoming_in, outgoing_of, incoming_of, outgoing, incoming, connection, fits_either, fits}
 use Rattle.sock_cmd.specs.declared.life.Life.{Life}
 use Rattle.sock_cmd.specs.Lives.{life_of, address_of, port_of, due_of}
 use Rattle.ring_mem.specs.Buffers as rings
 use Rattle.chip_parts.specs.declared.parts.Parts.{Parts}
 use Rattle.chip_parts.specs.Holding.{Holds}
 use Rattle.chip_links.specs.Fitting.{no_life, fits_here}
-
--- A call that moves bytes.
-abbrev moves : Due → Bool
-moves (due.Write c) = true
-moves (due.SendTo c port to) = true
-moves (due.Read c) = true
-moves (due.ReadAway c) = true
-moves (due.RecvFrom c port) = true
-moves call = false
+use Rattle.chip_steps.proofs.Moving.{moves, out_open, in_open}
 
 carried_moves : (call : Due) (flight free : ℕ) (what : LinkEntry) → carries what ≡ true → answers_call call flight free what ≡ true → moves call ≡ true
 carried_moves (due.Write c) flight free what h a = refl
@@ -42,46 +34,14 @@ carried_moves call flight free (Got bytes) h a = a
 carried_moves call flight free (Datagram from body) h a = a
 carried_moves call flight free what h a = cc
 
-moves_out : (at : Status) (c : ConnId) (to : Addr) (port flying : ℕ) (shut : Bool) → moves (outgoing_in at c to port flying shut) ≡ true → is_open at ≡ true
-moves_out Established c to port flying shut h = refl
-moves_out FinWait c to port flying shut h = refl
-moves_out CloseWait c to port flying shut h = refl
-moves_out LastAck c to port flying shut h = refl
-moves_out Udp c to port flying shut h = refl
-moves_out at c to port flying shut h = h
-
-moves_in : (at : Status) (c : ConnId) (port free : ℕ) (ended : Bool) → moves (incoming_in at c port free ended) ≡ true → is_open at ≡ true
-moves_in Established c port free ended h = refl
-moves_in FinWait c port free ended h = refl
-moves_in CloseWait c port free ended h = refl
-moves_in LastAck c port free ended h = refl
-moves_in Udp c port free ended h = refl
-moves_in at c port free ended h = h
-
-out_moves : (old : Option ℕ) (n : ℕ) (call : Due) (at : Status) → (moves call ≡ true → is_open at ≡ true)
-    → moves (elim old as (λ o. Due) [ None ↦ call | Some life ↦ due.Drop (connection n life) ]) ≡ true → is_open at ≡ true
-out_moves None n call at f h = f h
-out_moves (Some life) n call at f h = cc
-
-in_moves : (old : Option ℕ) (call : Due) (at : Status) → (moves call ≡ true → is_open at ≡ true)
-    → moves (elim old as (λ o. Due) [ None ↦ call | Some life ↦ due.Nothing ]) ≡ true → is_open at ≡ true
-in_moves None call at f h = f h
-in_moves (Some life) call at f h = cc
-
 -- Where bytes move the socket is open.
 pub carried_open : (starts : Starts) (past : Past) (n : ℕ) (what : LinkEntry) → carries what ≡ true → fits starts past n what ≡ true → is_open (sheet.status past n) ≡ true
 carried_open starts past n what c h =
-    let at = sheet.life past n in
     let f = flight starts past n in
     let r = rx_free starts past n in
-    let conn = connection n at.lives in
-    let to = kept_address past n in
-    let port = kept_port past n in
     elim (or_cases (answers_call (outgoing starts past n) f r what) (answers_call (incoming starts past n) f r what) h) [
-      | inl out ↦
-          out_moves at.old n (outgoing_in at.status conn to port f at.shut) at.status (moves_out at.status conn to port f at.shut) (carried_moves (outgoing starts past n) f r what c out)
-      | inr in_ ↦
-          in_moves at.old (incoming_in at.status conn port r at.ended) at.status (moves_in at.status conn port r at.ended) (carried_moves (incoming starts past n) f r what c in_)
+      | inl out ↦ out_open starts past n (carried_moves (outgoing starts past n) f r what c out)
+      | inr in_ ↦ in_open starts past n (carried_moves (incoming starts past n) f r what c in_)
     ]
 
 -- The link takes no more than is in flight.

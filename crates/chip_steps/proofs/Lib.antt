@@ -10,3 +10,4 @@ pub mod BitSteps
 pub mod ReadSteps
 pub mod OverLives
 pub mod Growing
+pub mod Moving
