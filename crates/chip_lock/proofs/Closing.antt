@@ -34,8 +34,8 @@ two_not s o id v at two j u apart there = omega (arith, o.parts, two, total-two 
 gone_of : {L : Type 0} (s : table.State (Slot L) View) (o : Orderly s) (id : ℕ) (v : View) → get_elem? s.views id ≡ some v → v.parts ≡ 2 → (j : ℕ) (u : View) → j ≢ id → get_elem? s.views j ≡ some u → IsGone u
 gone_of s o id v at two j u apart there = (o.each j u there).gone (two_not s o id v at two j u apart there)
 
-were_found : {L : Type 0} (log : Marked) (cause : Option Over) (terms : Terms) (k : KeptState L) (found : Option Found) → past_of k ≡ bare log → terms_of k.state ≡ terms → FoundIn (starts_in terms) (bare log) cause found → WereFound k.state.starts (past_of k) found
-were_found log cause terms k found is same named f at = subst (λ (x : Terms × Past). IsFound (starts_in x.0) x.1 f) (λ i. (sym same i, sym is i)) (named f at).0
+were_found : {L : Type 0} (log : Marked) (cause : Option Over) (terms : Terms) (k : KeptState L) (found : Option Found) → past_of k ≡ bare log → terms_of k.state ≡ terms → FoundIn (starts_in terms) terms.limit (bare log) cause found → WereFound k.state.starts k.state.log.limit (past_of k) found
+were_found log cause terms k found is same named f at = subst (λ (x : Terms × Past). IsFound (starts_in x.0) x.0.limit x.1 f) (λ i. (sym same i, sym is i)) (named f at).0
 
 has_part : (u : View) (n : ℕ) → (n ≡ 0 → IsGone u) → n ≡ 0 → IsOutside u
 has_part u n gone is t i = idle_not_inside t (sym (gone is).idle ∙ i)

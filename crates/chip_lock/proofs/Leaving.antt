@@ -11,13 +11,12 @@ use Rattle.atomic_table.proofs.Lists.{at_set}
 use Rattle.chip_sheet.specs.declared.event.Entry.{Entry}
 use Rattle.chip_sheet.specs.declared.event.Entry.TheVariants.{Rest}
 use Rattle.chip_sheet.specs.Past.{Past}
-use Rattle.chip_sheet.specs.Stops.{stop}
 use Rattle.chip_lock.specs.declared.over.Over.{Over}
 use Rattle.chip_lock.specs.declared.table.Stage.{Stage}
 use Rattle.chip_lock.specs.declared.table.Stage.TheVariants.{Idle, Waiting, Inside}
 use Rattle.chip_lock.specs.declared.table.Terms.{Terms}
 use Rattle.chip_lock.specs.declared.table.View.{View}
-use Rattle.chip_lock.specs.Causes.{Names}
+use Rattle.chip_lock.specs.Causes.{Names, StopsHere}
 use Rattle.chip_lock.specs.Lists.{total, below, picks, bare, is_first, same}
 use Rattle.chip_lock.specs.Plays.{Slot, left}
 use Rattle.chip_lock.specs.Rule.{Marked, StandsAt, Fits, Home, Out, Orderly, weighs}
@@ -61,8 +60,8 @@ module _ {L : Type 0} (id : ℕ) (v : View) (t : ℕ) (k : KeptState L) (in_turn
     gone = λ none_left. absurd (omega (arith, one, none_left));
     stands = tt;
     ended = end_named;
-    found = left_found (starts_in terms) v.cause k.cause cause v.seen (bare log) may.entry k.last v.found whole known may.keeps may.rests
-        (λ s none_before now. subst (λ (x : Terms). (may.entry ≡ Rest) × (stop (starts_in x) v.seen k.last ≡ Some s)) (f.terms_same (omega (arith, one))) (may.stops s none_before now)) f.found;
+    found = left_found (starts_in terms) terms.limit v.cause k.cause cause v.seen (bare log) may.entry k.last v.found whole known may.keeps may.rests
+        (λ s none_before now. subst (λ (x : Terms). (may.entry ≡ Rest) × StopsHere (starts_in x) x.limit v.seen k.last s) (f.terms_same (omega (arith, one))) (may.stops s none_before now)) f.found;
   }
     where
       end_named : Names k.cause (end_of v k)
@@ -83,7 +82,7 @@ module _ {L : Type 0} (id : ℕ) (v : View) (t : ℕ) (k : KeptState L) (in_turn
         gone = f.gone;
         stands = stands_outside (with_entry o.log id may.entry) u u.stage (λ t' i. distinct s o id j v u t apart at there (λ g. ap (weighs g) in_turn) (λ g. ap (weighs g) i ∙ ap g ((subst (StandsAt o.log u) i f.stands).0 ∙ sym served)));
         ended = λ c x. may.keeps c (known ∙ f.ended c x);
-        found = found_later (starts_in o.terms) (bare o.log) may.entry v.cause o.cause k.cause u.found known may.keeps may.rests f.found;
+        found = found_later (starts_in o.terms) o.terms.limit (bare o.log) may.entry v.cause o.cause k.cause u.found known may.keeps may.rests f.found;
       }
 
   -- A seat in its turn is served, and the state is out with it.

@@ -19,6 +19,7 @@ use Rattle.chip_lock.specs.declared.over.Over.{Over}
 use Rattle.chip_lock.specs.declared.over.Over.TheVariants.{Stopped, TraceFull, NoMemory, PollFault, Finished}
 use Rattle.chip_lock.specs.declared.table.Terms.{Terms}
 use Rattle.chip_lock.specs.declared.table.View.{View}
+use Rattle.chip_lock.specs.Causes.{StopsHere}
 use Rattle.chip_lock.specs.Overs.{IsGiven}
 use Rattle.chip_lock.specs.Passes.{Adds, BusEnds, BusTaken, EndsAt, FindsStop, GivesBy, LinkTaken, PassView, StaysOf, pass_view}
 use Rattle.chip_lock.specs.Plays.{Slot}
@@ -55,9 +56,8 @@ found_same None (Some Finished) place event found none = refl
 
 -- What an event of the bus needs to have found a stop.
 pub record FoundBy (starts : Starts) (limit : ℕ) (past : Past) (e last : BusEvent) (s : ChipStop) : Type 0 where
-  pub stops : stop starts past last ≡ Some s
+  pub here : StopsHere starts limit past last s
   pub last_is : last ≡ e
-  pub room : is_full_at limit past ≡ false
 
 found_refused : (vc : Option Over) (starts : Starts) (limit : ℕ) (past : Past) (e last : BusEvent) (why : Over) (found : Option Found) → ((s : ChipStop) → vc ≡ None → why ≡ Stopped s → FoundBy starts limit past e last s)
     → (found_after vc (Some why) (length past) last found ≡ found) ⊎ FindsStop starts limit past e why (found_after vc (Some why) (length past) last found)
@@ -65,10 +65,10 @@ found_refused (Some c) starts limit past e last why found by = inl refl
 found_refused None starts limit past e last (Stopped s) found by =
     let b = by s refl refl in
     inr (record {
-      room = b.room;
+      room = b.here.room;
       stop_is = s;
       why_is = refl;
-      stops = ap (λ (x : BusEvent). stop starts past x) (sym b.last_is) ∙ b.stops;
+      stops = ap (λ (x : BusEvent). stop starts past x) (sym b.last_is) ∙ b.here.stops;
       is = ap (λ (x : BusEvent). Some (record { place = length past; event = x; stop = s })) b.last_is;
     })
 found_refused None starts limit past e last TraceFull found by = inl refl
@@ -123,7 +123,7 @@ module _ {L : Type 0} (m m' : Me (Slot L) View) (k k' : KeptState L) (i : IsInsi
     terms = (λ j. record { tx_start = (one.1.starts j).tx; rx_start = (one.1.starts j).rx; limit = one.1.limit j }) ∙ i.terms;
     keeps = λ c x. one.1.keeps c x;
     rests = one.1.rests;
-    stops = λ s none now. let p = one.1.stops s none now in (p.0, ap (λ (x : Terms). stop (starts_in x) (past_of k) k'.last) (sym i.terms) ∙ p.1);
+    stops = λ s none now. let p = one.1.stops s none now in (p.0, subst (λ (x : Terms). StopsHere (starts_in x) x.limit (past_of k) k'.last s) i.terms p.1);
     short = one.1.short;
     live = omega (arith, runs, moves.live);
     calls = moves.calls;
@@ -190,13 +190,10 @@ module _ {L : Type 0} (t t' : TableId) (m m' m'' : Me (Slot L) View) (k k' : Kep
     }
       where
         by : (s : ChipStop) → k.cause ≡ None → k'.cause ≡ Some (Stopped s) → FoundBy (starts_in m.0.terms) m.0.terms.limit (past_of k) e k'.last s
-        by s none now =
-            let f = finds s none now in
-            record {
-              stops = ap (λ (x : Starts). stop x (past_of k) k'.last) (sym (ap starts_in i.terms)) ∙ (takes.1.stops s none now).1;
-              last_is = f.0;
-              room = ap (λ (n : ℕ). is_full_at n (past_of k)) (sym (ap (λ (x : Terms). x.limit) i.terms)) ∙ f.1;
-            }
+        by s none now = record {
+          here = subst (λ (x : Terms). StopsHere (starts_in x) x.limit (past_of k) k'.last s) i.terms (takes.1.stops s none now).1;
+          last_is = finds s none now;
+        }
 
     pub bus_taken : (e : BusEvent) (a : BusAnswer) → old.ended ≡ None → BusMade k e a k' → TakesOne k k' → BusTaken old e a (pass_view t' m''.0)
     bus_taken e a before made takes = record {

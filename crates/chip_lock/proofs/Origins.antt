@@ -10,13 +10,12 @@ use Rattle.chip_sheet.specs.declared.event.Entry.{Entry}
 use Rattle.chip_sheet.specs.declared.event.Entry.TheVariants.{Rest}
 use Rattle.chip_sheet.specs.declared.stop.ChipStop.{ChipStop}
 use Rattle.chip_sheet.specs.Past.{Past}
-use Rattle.chip_sheet.specs.Stops.{stop}
 use Rattle.chip_sheet.specs.Streams.{Starts}
 use Rattle.chip_lock.specs.declared.over.Found.{Found}
 use Rattle.chip_lock.specs.declared.over.Over.{Over}
 use Rattle.chip_lock.specs.declared.over.Over.TheVariants.{Stopped, TraceFull, NoMemory, PollFault, Finished}
 use Rattle.chip_lock.specs.declared.table.View.{View}
-use Rattle.chip_lock.specs.Causes.{IsFound, FoundIn, Names, Owns}
+use Rattle.chip_lock.specs.Causes.{IsFound, FoundIn, Names, Owns, StopsHere}
 use Rattle.chip_lock.specs.Rule.{IsOrigin, Origin}
 use Rattle.chip_lock.specs.Views.{found_after, gave_after}
 use Rattle.chip_lock.proofs.Sums.{set-at}
@@ -27,31 +26,31 @@ none_some x e = cc
 pub some_same : {A : Type 0} (x y : A) → Some x ≡ Some y → x ≡ y
 some_same x y e = cc
 
-found_rested : (starts : Starts) (past : Past) (f : Found) → IsFound starts past f → IsFound starts (Rest ∷ past) f
-found_rested starts past f i = record { before = i.before; more = suc i.more; place = i.place; stops = i.stops; since = ap (λ (l : Past). Rest ∷ l) i.since }
+found_rested : (starts : Starts) (limit : ℕ) (past : Past) (f : Found) → IsFound starts limit past f → IsFound starts limit (Rest ∷ past) f
+found_rested starts limit past f i = record { before = i.before; more = suc i.more; place = i.place; here = i.here; since = ap (λ (l : Past). Rest ∷ l) i.since }
 
 -- One entry more, in which nothing happens where a cause was kept.
-pub found_later : (starts : Starts) (past : Past) (e : Entry) (vc cause kc : Option Over) (found : Option Found) → vc ≡ cause → Names kc vc → ((c : Over) → vc ≡ Some c → e ≡ Rest) → FoundIn starts past cause found
-    → FoundIn starts (e ∷ past) kc found
-found_later starts past e vc cause kc found same keeps rests named f at =
+pub found_later : (starts : Starts) (limit : ℕ) (past : Past) (e : Entry) (vc cause kc : Option Over) (found : Option Found) → vc ≡ cause → Names kc vc → ((c : Over) → vc ≡ Some c → e ≡ Rest) → FoundIn starts limit past cause found
+    → FoundIn starts limit (e ∷ past) kc found
+found_later starts limit past e vc cause kc found same keeps rests named f at =
     let t = named f at in
     let known = same ∙ t.1 in
-    (subst (λ (d : Entry). IsFound starts (d ∷ past) f) (sym (rests (Stopped f.stop) known)) (found_rested starts past f t.0), keeps (Stopped f.stop) known)
+    (subst (λ (d : Entry). IsFound starts limit (d ∷ past) f) (sym (rests (Stopped f.stop) known)) (found_rested starts limit past f t.0), keeps (Stopped f.stop) known)
 
-new_found : (starts : Starts) (seen past : Past) (e : Entry) (event : BusEvent) (s : ChipStop) → seen ≡ past → (e ≡ Rest) × (stop starts seen event ≡ Some s) → IsFound starts (e ∷ past) (record { place = length seen; event = event; stop = s })
-new_found starts seen past e event s same t = record { before = seen; more = 0; place = refl; stops = t.1; since = ap (λ (d : Entry). d ∷ past) t.0 ∙ ap (λ (l : Past). Rest ∷ l) (sym same) }
+new_found : (starts : Starts) (limit : ℕ) (seen past : Past) (e : Entry) (event : BusEvent) (s : ChipStop) → seen ≡ past → (e ≡ Rest) × StopsHere starts limit seen event s → IsFound starts limit (e ∷ past) (record { place = length seen; event = event; stop = s })
+new_found starts limit seen past e event s same t = record { before = seen; more = 0; place = refl; here = t.1; since = ap (λ (d : Entry). d ∷ past) t.0 ∙ ap (λ (l : Past). Rest ∷ l) (sym same) }
 
 -- The seat that leaves has found the stop that it sets.
-pub left_found : (starts : Starts) (vc kc cause : Option Over) (seen past : Past) (e : Entry) (event : BusEvent) (found : Option Found) → seen ≡ past → vc ≡ cause → Names kc vc → ((c : Over) → vc ≡ Some c → e ≡ Rest)
-    → ((s : ChipStop) → vc ≡ None → kc ≡ Some (Stopped s) → (e ≡ Rest) × (stop starts seen event ≡ Some s)) → FoundIn starts past cause found → FoundIn starts (e ∷ past) kc (found_after vc kc (length seen) event found)
-left_found starts (Some c) kc cause seen past e event found same known keeps rests stops f = found_later starts past e (Some c) cause kc found known keeps rests f
-left_found starts None None cause seen past e event found same known keeps rests stops f = found_later starts past e None cause None found known keeps rests f
-left_found starts None (Some (Stopped s)) cause seen past e event found same known keeps rests stops f =
-    λ x at. subst (λ (y : Found). IsFound starts (e ∷ past) y × (Some (Stopped s) ≡ Some (Stopped y.stop))) (some_same _ x at) (new_found starts seen past e event s same (stops s refl refl), refl)
-left_found starts None (Some TraceFull) cause seen past e event found same known keeps rests stops f = found_later starts past e None cause (Some TraceFull) found known keeps rests f
-left_found starts None (Some NoMemory) cause seen past e event found same known keeps rests stops f = found_later starts past e None cause (Some NoMemory) found known keeps rests f
-left_found starts None (Some PollFault) cause seen past e event found same known keeps rests stops f = found_later starts past e None cause (Some PollFault) found known keeps rests f
-left_found starts None (Some Finished) cause seen past e event found same known keeps rests stops f = found_later starts past e None cause (Some Finished) found known keeps rests f
+pub left_found : (starts : Starts) (limit : ℕ) (vc kc cause : Option Over) (seen past : Past) (e : Entry) (event : BusEvent) (found : Option Found) → seen ≡ past → vc ≡ cause → Names kc vc → ((c : Over) → vc ≡ Some c → e ≡ Rest)
+    → ((s : ChipStop) → vc ≡ None → kc ≡ Some (Stopped s) → (e ≡ Rest) × StopsHere starts limit seen event s) → FoundIn starts limit past cause found → FoundIn starts limit (e ∷ past) kc (found_after vc kc (length seen) event found)
+left_found starts limit (Some c) kc cause seen past e event found same known keeps rests stops f = found_later starts limit past e (Some c) cause kc found known keeps rests f
+left_found starts limit None None cause seen past e event found same known keeps rests stops f = found_later starts limit past e None cause None found known keeps rests f
+left_found starts limit None (Some (Stopped s)) cause seen past e event found same known keeps rests stops f =
+    λ x at. subst (λ (y : Found). IsFound starts limit (e ∷ past) y × (Some (Stopped s) ≡ Some (Stopped y.stop))) (some_same _ x at) (new_found starts limit seen past e event s same (stops s refl refl), refl)
+left_found starts limit None (Some TraceFull) cause seen past e event found same known keeps rests stops f = found_later starts limit past e None cause (Some TraceFull) found known keeps rests f
+left_found starts limit None (Some NoMemory) cause seen past e event found same known keeps rests stops f = found_later starts limit past e None cause (Some NoMemory) found known keeps rests f
+left_found starts limit None (Some PollFault) cause seen past e event found same known keeps rests stops f = found_later starts limit past e None cause (Some PollFault) found known keeps rests f
+left_found starts limit None (Some Finished) cause seen past e event found same known keeps rests stops f = found_later starts limit past e None cause (Some Finished) found known keeps rests f
 
 -- Another view of a seat.
 pub origin_set : (c : Over) (views : List View) (id : ℕ) (v w : View) → get_elem? views id ≡ some v → (IsOrigin c v → IsOrigin c w) → Origin c views → Origin c (set views id w)

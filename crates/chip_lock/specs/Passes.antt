@@ -142,9 +142,9 @@ pub record Closes {L : Type 0} (a b : PassView) (now : State L) : Type 0 where
   -- both ended with one cause, which comes from one of them
   pub cause : (c d : Over) → HaveEnded a b c → HaveEnded a b d → c ≡ d
   pub origin : (c : Over) → HaveEnded a b c → IsOfOne a b c
-  -- what was found was found, and nothing happened from there on
-  pub found : WereFound now.starts now.log.past a.found
-  pub other_found : WereFound now.starts now.log.past b.found
+  -- what was found was found while the history was not full, and nothing happened from there on
+  pub found : WereFound now.starts now.log.limit now.log.past a.found
+  pub other_found : WereFound now.starts now.log.limit now.log.past b.found
   pub full : HaveEnded a b TraceFull → is_full now.log ≡ true
   -- a stop of the chip was found by one of them, and is the cause
   pub stopped : (s : ChipStop) → now.stopped ≡ Some s → IsOfOne a b (Stopped s)

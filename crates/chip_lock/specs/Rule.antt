@@ -41,7 +41,7 @@ pub record HasJoined (log : Marked) (cause : Option Over) (terms : Terms) (p : �
   pub theirs : v.theirs ≡ picks (not (is_first p)) log
   pub told : GoesOn v.told (bare log)
   pub their_end : Names cause v.their_end
-  pub their_found : FoundIn (starts_in terms) (bare log) cause v.their_found
+  pub their_found : FoundIn (starts_in terms) terms.limit (bare log) cause v.their_found
 
 -- A seat with no part has done nothing.
 pub record IsGone (v : View) : Type 0 where
@@ -59,7 +59,7 @@ pub record Fits (log : Marked) (cause : Option Over) (terms : Terms) (p : ℕ) (
   pub gone : v.parts ≡ 0 → IsGone v
   pub stands : StandsAt log v v.stage
   pub ended : Names cause v.ended
-  pub found : FoundIn (starts_in terms) (bare log) cause v.found
+  pub found : FoundIn (starts_in terms) terms.limit (bare log) cause v.found
 
 -- A seat from which the cause comes, or to which it was handed on.
 abbrev pub IsOrigin : Over → View → Type 0

@@ -5,12 +5,11 @@ use Rattle.chip_sheet.specs.declared.event.Entry.{Entry}
 use Rattle.chip_sheet.specs.declared.event.Entry.TheVariants.{Rest}
 use Rattle.chip_sheet.specs.declared.stop.ChipStop.{ChipStop}
 use Rattle.chip_sheet.specs.Past.{GoesOn}
-use Rattle.chip_sheet.specs.Stops.{stop}
 use Rattle.chip_lock.specs.declared.over.Over.{Over}
 use Rattle.chip_lock.specs.declared.over.Over.TheVariants.{Stopped}
 use Rattle.chip_lock.specs.declared.table.Stage.TheVariants.{Idle, Waiting, Inside}
 use Rattle.chip_lock.specs.declared.table.View.{View}
-use Rattle.chip_lock.specs.Causes.{Names, Owns, WereFound}
+use Rattle.chip_lock.specs.Causes.{Names, Owns, StopsHere, WereFound}
 use Rattle.chip_lock.specs.Lists.{IsWoven}
 use Rattle.chip_lock.specs.Plays.{Slot}
 use Rattle.chip_lock.specs.Standing.{KeptState, past_of}
@@ -55,7 +54,7 @@ pub record MayLeave {L : Type 0} (v : View) (k : KeptState L) : Type 0 where
   pub terms : terms_of k.state ≡ v.terms
   pub keeps : Names k.cause v.cause
   pub rests : (c : Over) → v.cause ≡ Some c → entry ≡ Rest
-  pub stops : (s : ChipStop) → v.cause ≡ None → k.cause ≡ Some (Stopped s) → (entry ≡ Rest) × (stop (starts_in v.terms) v.seen k.last ≡ Some s)
+  pub stops : (s : ChipStop) → v.cause ≡ None → k.cause ≡ Some (Stopped s) → (entry ≡ Rest) × StopsHere (starts_in v.terms) v.terms.limit v.seen k.last s
   pub short : length (past_of k) < 2 ^ 60
   pub live : v.live ≤ v.runs + k.live
   pub calls : v.calls ≤ k.state.calls
@@ -69,6 +68,6 @@ pub record Gathered {L : Type 0} (v w : View) (k : KeptState L) : Type 0 where
   pub calls : k.state.calls ≡ v.asked + w.asked
   pub cause : Names k.cause v.ended
   pub other_cause : Names k.cause w.ended
-  pub found : WereFound k.state.starts (past_of k) v.found
-  pub other_found : WereFound k.state.starts (past_of k) w.found
+  pub found : WereFound k.state.starts k.state.log.limit (past_of k) v.found
+  pub other_found : WereFound k.state.starts k.state.log.limit (past_of k) w.found
   pub origin : (c : Over) → k.cause ≡ Some c → Owns c v.found v.gave ⊎ Owns c w.found w.gave

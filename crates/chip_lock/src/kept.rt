@@ -68,7 +68,9 @@ impl<L: Links> Kept<L> {
         ensures ok { IfOk result (λ k. Keeps shared k.state) }
         ensures uncaused { IfOk result (λ k. k.cause ≡ None) }
         ensures live { IfOk result (λ k. k.live ≡ 2) }
+        ensures still { IfOk result (λ k. k.state.stopped ≡ None) }
         ensures err { IfErr result (λ s. Keeps shared s) }
+        ensures err_still { IfErr result (λ s. s.stopped ≡ None) }
     {
         if renew(&mut shared, 2).is_some() {
             return Err(shared);

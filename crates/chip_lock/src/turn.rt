@@ -131,6 +131,7 @@ impl<L: Links> Turn<L> {
         ensures first { IfOk result (λ r. r.1 ≡ fresh r.0 shared) }
         ensures second { IfOk result (λ r. r.2 ≡ fresh r.0 shared) }
         ensures refused { IfErr result (λ s. Keeps shared s) }
+        ensures unstopped { IfErr result (λ s. s.stopped ≡ None) }
     {
         let _calls = shared.calls();
         let about = Snapshot::of(&shared);
