@@ -43,6 +43,34 @@ pub fn sweep<R: Wait, L: Links, G: Gate>(
     Ok(())
 }
 
+/// A sweep, and the wait for readiness behind it. A wait that failed ends the pass, and so does a sweep that was refused.
+///
+/// Answers the cause with which the pass has ended, or `None` where it goes on: then no wait failed. It may wait for its turns.
+pub fn serve_once<R: Wait, L: Links, P: Poller, G: Gate>(
+    rt: &R,
+    turn: &Turn<L>,
+    pass: &mut Pass<L>,
+    poller: &mut P,
+    gate: &G,
+) -> Option<Over>
+    requires turn { pass.old.turn ≡ turn.now }
+    ensures serves { Serves pass.old pass.new }
+    ensures ended { pass.new.ended ≡ result }
+    ensures goes_on { result ≡ None → P.faults poller.new ≡ P.faults poller.old }
+    ensures faults { P.faults poller.old ≤ P.faults poller.new }
+    ensures gave { GivesFault (P.faults poller.old) (P.faults poller.new) pass.old pass.new }
+    ensures quiet { result ≡ None → pass.new.gave ≡ pass.old.gave }
+    ensures before { (c : Over) → pass.old.ended ≡ Some c → (result ≡ Some c) × (pass.new ≡ pass.old) × (P.faults poller.new ≡ P.faults poller.old) }
+{
+    if let Err(why) = sweep(rt, turn, pass, gate) {
+        return Some(why);
+    }
+    if poller.wait().is_err() {
+        return Some(turn.end(rt, pass, Over::PollFault));
+    }
+    None
+}
+
 /// Serves the links until this pass has ended: a sweep, then a wait for readiness, and so on.
 ///
 /// Answers the cause with which the pass ended: the one that is kept, or the one for which a step was refused; where a wait failed,
@@ -62,11 +90,8 @@ pub fn run_ready<R: Wait, L: Links + Send, P: Poller, G: Gate>(
     ensures before { (c : Over) → pass.old.ended ≡ Some c → (result ≡ c) × (pass.new ≡ pass.old) × (P.faults poller.new ≡ P.faults poller.old) }
 {
     for _ in rt.forever() {
-        if let Err(why) = sweep(rt, turn, pass, gate) {
+        if let Some(why) = serve_once(rt, turn, pass, poller, gate) {
             return why;
-        }
-        if poller.wait().is_err() {
-            return turn.end(rt, pass, Over::PollFault);
         }
     }
     unreachable!()
