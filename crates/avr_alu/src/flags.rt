@@ -6,7 +6,7 @@ ghost use Rattle.avr_alu.specs.Groups.{sum, addition_flags, difference, subtract
 ghost use Rattle.avr_alu.specs.Bits.{flags_by_bits, addition_by_bits, subtraction_by_bits};
 
 /// The flags H, V, N, Z and C after an operation.
-#[derive(Clone, Copy, Debug, PartialEq, Eq)]
+#[derive(Clone, Copy)]
 pub struct Flags {
     pub half_carry: bool,
     pub overflow: bool,

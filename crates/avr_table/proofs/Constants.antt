@@ -1,5 +1,5 @@
 -- The words that begin with 0011 to 0111 and with 1110.
-use Rattle.std.proofs.Common.{◌≡◌, ℕ, ◌/◌, ◌<◌, ◌≤◌, ◌⊎◌, inl, inr, refl, arith}
+use Rattle.std.proofs.Common.{◌≡◌, ℕ, ◌/◌, ◌<◌, ◌≤◌, inl, inr, refl, arith}
 use Rattle.std.specs.Prelude.{Ok}
 use Rattle.avr_table.specs.Decoded.{decoded}
 use Rattle.avr_table.proofs.Alike.{Agrees, at_each}
