@@ -1,6 +1,6 @@
 -- What becomes of a connection that was made.
-use Rattle.std.proofs.Common.{◌≡◌, ◌<◌, ℕ, ◌+◌, Bool, true, false, not, ◌&&◌, ◌||◌, cond, eqb, List, [], ◌∷◌, Option, None, Some, inl, inr, refl, sym, ap, ◌∙◌, subst, arith, ◌⊎◌}
-use Rattle.std.proofs.lemmas.Bool.{cases_Bool, and_parts, or_cases, or_left, or_right, eqb-true, eq-eqb, false≢true, cond-true, cond_both}
+use Rattle.std.proofs.Common.{◌≡◌, ℕ, Bool, true, false, not, ◌&&◌, ◌||◌, cond, eqb, [], ◌∷◌, Option, None, Some, inl, inr, refl, sym, ap, ◌∙◌, subst, ◌⊎◌}
+use Rattle.std.proofs.lemmas.Bool.{cases_Bool, or_left, or_right, eq-eqb, false≢true}
 use Rattle.chip_sheet.specs.declared.event.Addr.{Addr}
 use Rattle.chip_sheet.specs.declared.event.ConnId.{ConnId}
 use Rattle.chip_sheet.specs.declared.event.Entry.{Entry}
@@ -14,22 +14,20 @@ use Rattle.chip_sheet.specs.declared.socket.Cause.TheVariants as because
 use Rattle.chip_sheet.specs.declared.socket.Due.{Due}
 use Rattle.chip_sheet.specs.declared.socket.Due.TheVariants as due
 use Rattle.chip_sheet.specs.declared.phase.Access.{Access}
-use Rattle.chip_sheet.specs.declared.phase.Access.TheVariants.{NoAccess, Read, Write}
 use Rattle.chip_sheet.specs.Past.{Past}
 use Rattle.chip_sheet.specs.Frames.{access}
-use Rattle.chip_sheet.specs.Blocks.{registers_of}
-use Rattle.chip_sheet.specs.Registers.{is_reset}
-use Rattle.chip_sheet.specs.Life.{Life, Facts, facts_of, life, life_after, lives_on, new_life, next, begins, cause, cause_by, command, opening, protocol, happening, status, lives, old, old_after, closing, is_closed, asks_link}
+use Rattle.chip_sheet.specs.Life.{Life, Facts, facts_of, life, life_after, lives_on, new_life, next, begins, cause, cause_by, happening, status, lives, old, old_after, closing, is_closed, asks_link}
 use Rattle.chip_sheet.specs.Streams.{Starts, is_of, makes, is_made}
 use Rattle.chip_sheet.specs.Windows.{flight, rx_free}
 use Rattle.chip_sheet.specs.Connections.{is_drop, is_life, is_dropped}
-use Rattle.chip_sheet.specs.LinkCalls.{outgoing, incoming, outgoing_in, incoming_in, connection, kept_address, kept_port, answers_call, fits}
+use Rattle.chip_sheet.specs.LinkCalls.{outgoing_in, incoming_in, connection, kept_address, kept_port, answers_call, fits}
 use Rattle.chip_sheet.specs.Legal.{Legal}
 use Rattle.chip_sheet.proofs.LifeSteps.{is_fresh}
 use Rattle.chip_sheet.proofs.Within.{both_same}
 use Rattle.chip_sheet.proofs.MadeLaws.{drop_only, neither_call, made_fresh}
 use Rattle.chip_sheet.proofs.LivesLaws.{old_stays}
 use Rattle.chip_sheet.proofs.Quiet.{asks_asked}
+use Rattle.chip_sheet.proofs.AccessCauses.{of_access, access_cause}
 
 -- The present connection of a socket that is not closed: the link was asked in its life, and no older life is there.
 record IsPresent (at : Life) (l : ℕ) : Type 0 where
@@ -178,32 +176,13 @@ drops : Cause → Bool
 drops because.Dropped = true
 drops why = false
 
-pick_no : (b : Bool) (x y : Cause) → drops x ≡ false → drops y ≡ false → drops (cond b x y) ≡ false
-pick_no true x y h k = h
-pick_no false x y h k = k
-
-no_opening : (protocol : ℕ) → drops (opening protocol) ≡ false
+not_by_access : (why : Cause) → of_access why ≡ true → drops why ≡ false
 unfolding drops
-no_opening protocol = pick_no (eqb protocol 1) because.OpenTcp _ refl (pick_no (eqb protocol 2) because.OpenUdp because.Nothing refl refl)
-
-no_command : (protocol v : ℕ) → drops (command protocol v) ≡ false
-unfolding drops
-no_command protocol v =
-    pick_no (eqb v 0x01) (opening protocol) _ (no_opening protocol)
-    (pick_no (eqb v 0x02) because.Listen _ refl
-    (pick_no (eqb v 0x04) because.Connect _ refl
-    (pick_no (eqb v 0x08) because.Disconnect _ refl
-    (pick_no (eqb v 0x10) because.Close _ refl
-    (pick_no (eqb v 0x20) because.Send _ refl
-    (pick_no (eqb v 0x40) because.Receive because.Nothing refl refl))))))
+not_by_access because.Dropped h = cc
+not_by_access why h = refl
 
 no_access : (past : Past) (n : ℕ) (made : Access) → drops (cause_by past n made) ≡ false
-unfolding drops
-no_access past n NoAccess = refl
-no_access past n (Read block addr) = refl
-no_access past n (Write block addr v) =
-    pick_no (is_reset (Write block addr v)) because.Reset _ refl
-    (pick_no (eqb block (registers_of n) && eqb addr 0x01) (command (protocol past n) v) because.Nothing (no_command (protocol past n) v) refl)
+no_access past n made = not_by_access (cause_by past n made) (access_cause past n made)
 
 dropped_now : (past : Past) (entry : Entry) (n l : ℕ) → cause past n entry ≡ because.Dropped → old past n ≡ Some l → is_dropped (entry ∷ past) n l ≡ true
 unfolding drops

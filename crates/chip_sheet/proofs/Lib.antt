@@ -6,6 +6,7 @@ pub mod ResetLaws
 pub mod Places
 pub mod SizeLaws
 pub mod LifeSteps
+pub mod AccessCauses
 pub mod FitLaws
 pub mod Quiet
 pub mod BitSums

@@ -1,10 +1,10 @@
 -- When a connection is made: an open TCP socket has one, and UDP has none.
-use Rattle.std.proofs.Common.{◌≡◌, ◌<◌, ℕ, ◌+◌, Bool, true, false, ◌&&◌, ◌||◌, cond, eqb, ltb, List, [], ◌∷◌, Option, None, Some, inl, inr, refl, sym, ap, ◌∙◌, subst, arith, ◌⊎◌}
-use Rattle.std.proofs.lemmas.Bool.{cases_Bool, and_right, or_cases, or_left, or_right, ne_eqb, eq-eqb, cond_both, false≢true}
+use Rattle.std.proofs.Common.{◌≡◌, ◌<◌, ℕ, ◌+◌, Bool, true, false, ◌&&◌, ◌||◌, cond, eqb, ltb, [], ◌∷◌, Option, None, Some, inl, inr, refl, sym, ap, ◌∙◌, subst, arith, ◌⊎◌}
+use Rattle.std.proofs.lemmas.Bool.{and_right, or_cases, or_left, or_right, ne_eqb, eq-eqb, cond_both, false≢true}
 use Rattle.chip_sheet.specs.declared.event.Addr.{Addr}
 use Rattle.chip_sheet.specs.declared.event.ConnId.{ConnId}
 use Rattle.chip_sheet.specs.declared.phase.Access.{Access}
-use Rattle.chip_sheet.specs.declared.phase.Access.TheVariants.{NoAccess, Read, Write}
+use Rattle.chip_sheet.specs.declared.phase.Access.TheVariants.{Read, Write}
 use Rattle.chip_sheet.specs.declared.socket.Status.{Status}
 use Rattle.chip_sheet.specs.declared.socket.Status.TheVariants.{Closed, Init, Listen, SynSent, Established, FinWait, CloseWait, LastAck, Udp}
 use Rattle.chip_sheet.specs.declared.socket.Cause.{Cause}
@@ -17,9 +17,7 @@ use Rattle.chip_sheet.specs.declared.event.LinkEntry.{LinkEntry}
 use Rattle.chip_sheet.specs.declared.event.LinkEntry.TheVariants.{Linked, Accepted, Dropped}
 use Rattle.chip_sheet.specs.Past.{Past}
 use Rattle.chip_sheet.specs.Frames.{access}
-use Rattle.chip_sheet.specs.Blocks.{registers_of}
-use Rattle.chip_sheet.specs.Registers.{is_reset}
-use Rattle.chip_sheet.specs.Life.{Life, Facts, facts_of, life, life_after, lives_on, new_life, next, begins, is_udp, cause, cause_by, command, opening, protocol, happening, status, lives}
+use Rattle.chip_sheet.specs.Life.{Life, Facts, facts_of, life, life_after, lives_on, new_life, next, begins, is_udp, cause, cause_by, happening, status, lives}
 use Rattle.chip_sheet.specs.Streams.{Starts, is_of, is_open, makes, is_made}
 use Rattle.chip_sheet.specs.Windows.{flight, rx_free}
 use Rattle.chip_sheet.specs.Connections.{is_drop}
@@ -27,6 +25,7 @@ use Rattle.chip_sheet.specs.LinkCalls.{outgoing, incoming, outgoing_in, incoming
 use Rattle.chip_sheet.specs.Legal.{Legal}
 use Rattle.chip_sheet.proofs.LifeSteps.{is_fresh, lives_grow}
 use Rattle.chip_sheet.proofs.Within.{both_same}
+use Rattle.chip_sheet.proofs.AccessCauses.{of_access, access_cause}
 
 pub drop_only : (c : ConnId) (flight free : ℕ) (what : LinkEntry) → is_drop what ≡ false → answers_call (due.Drop c) flight free what ≡ false
 drop_only c flight free Dropped h = cc
@@ -208,32 +207,14 @@ makes_it because.Linked = true
 makes_it because.Accepted = true
 makes_it why = false
 
-pick_no : (b : Bool) (x y : Cause) → makes_it x ≡ false → makes_it y ≡ false → makes_it (cond b x y) ≡ false
-pick_no true x y h k = h
-pick_no false x y h k = k
-
-no_opening : (protocol : ℕ) → makes_it (opening protocol) ≡ false
+not_by_access : (why : Cause) → of_access why ≡ true → makes_it why ≡ false
 unfolding makes_it
-no_opening protocol = pick_no (eqb protocol 1) because.OpenTcp _ refl (pick_no (eqb protocol 2) because.OpenUdp because.Nothing refl refl)
-
-no_command : (protocol v : ℕ) → makes_it (command protocol v) ≡ false
-unfolding makes_it
-no_command protocol v =
-    pick_no (eqb v 0x01) (opening protocol) _ (no_opening protocol)
-    (pick_no (eqb v 0x02) because.Listen _ refl
-    (pick_no (eqb v 0x04) because.Connect _ refl
-    (pick_no (eqb v 0x08) because.Disconnect _ refl
-    (pick_no (eqb v 0x10) because.Close _ refl
-    (pick_no (eqb v 0x20) because.Send _ refl
-    (pick_no (eqb v 0x40) because.Receive because.Nothing refl refl))))))
+not_by_access because.Linked h = cc
+not_by_access because.Accepted h = cc
+not_by_access why h = refl
 
 no_access : (past : Past) (n : ℕ) (made : Access) → makes_it (cause_by past n made) ≡ false
-unfolding makes_it
-no_access past n NoAccess = refl
-no_access past n (Read block addr) = refl
-no_access past n (Write block addr v) =
-    pick_no (is_reset (Write block addr v)) because.Reset _ refl
-    (pick_no (eqb block (registers_of n) && eqb addr 0x01) (command (protocol past n) v) because.Nothing (no_command (protocol past n) v) refl)
+no_access past n made = not_by_access (cause_by past n made) (access_cause past n made)
 
 happening_makes : (what : LinkEntry) → makes_it (happening what) ≡ makes what
 unfolding makes_it
