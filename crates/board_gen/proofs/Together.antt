@@ -1,5 +1,5 @@
 -- A session after an event.
-use Rattle.std.proofs.Common.{◌≡◌, ℕ, ◌≤◌, ◌<◌, ◌^◌, Bool, ◌∷◌, length, Option, None, Some, inl, inr, sym, ap, ◌∙◌, subst, arith, ◌⊎◌}
+use Rattle.std.proofs.Common.{◌≡◌, ℕ, ◌<◌, ◌^◌, Bool, ◌∷◌, length, Option, None, Some, inl, inr, sym, ap, ◌∙◌, subst, arith, ◌⊎◌}
 use Rattle.board_bus.specs.declared.event.BusEvent.{BusEvent}
 use Rattle.board_bus.specs.declared.event.BusAnswer.{BusAnswer}
 use Rattle.chip_sheet.specs.declared.event.Entry.TheVariants.{Bus}
@@ -15,31 +15,27 @@ use Rattle.chip_sheet.specs.Streams.{Starts}
 use Rattle.chip_core.specs.declared.chip.Chip.{Chip}
 use Rattle.chip_core.specs.Chip.{Stands, starts_of, fits_here}
 use Rattle.board_gen.specs.Session.{Takes}
-use Rattle.chip_hist.specs.Log.{Log, entry_weight, weight_of}
-use Rattle.board_gen.specs.SessionState.{Together}
+use Rattle.chip_hist.specs.Log.{Log}
+use Rattle.board_gen.specs.SessionState.{HasTextRoom, Together}
 use Rattle.board_gen.specs.declared.session.TheConstants.{WEIGHT_LIMIT}
 
--- a history that is light is short
-pub short : (past past' : Past) → past ≡ past' → length past ≤ weight_of past → weight_of past' ≤ WEIGHT_LIMIT → length past < 2 ^ 60
-short past past' same weighed light = let w = ap weight_of same in omega (arith, weighed, light, w)
+-- a history that has room for a text is short, and light
+pub short : (past past' : Past) → past ≡ past' → HasTextRoom past' 0 → length past < 2 ^ 60
+short past past' same light = let len = ap length same in omega (arith, light.few, len)
 
 -- the chip and the history after an entry
 pub together_after : (starts : Starts) (chip : Chip) (past : Past) (entry : Entry) (history : Log) → starts_of chip ≡ starts → Stands starts chip (entry ∷ past)
-    → history.past ≡ entry ∷ past → 1 ≤ entry_weight entry → length past ≤ weight_of past → history.limit ≡ WEIGHT_LIMIT → Together chip history
-together_after starts chip past entry history same stands is some weighed limited = record {
+    → history.past ≡ entry ∷ past → history.limit ≡ WEIGHT_LIMIT → Together chip history
+together_after starts chip past entry history same stands is limited = record {
   stands = subst (λ (p : Past). Stands (starts_of chip) chip p) (sym is) (subst (λ (s : Starts). Stands s chip (entry ∷ past)) (sym same) stands);
-  weighed =
-      let more : length (entry ∷ past) ≤ weight_of (entry ∷ past) = omega (arith, some, weighed) in
-      subst (λ (p : Past). length p ≤ weight_of p) (sym is) more;
   limited = limited;
 }
 
 -- the chip and the history after a stop
 pub together_stopped : (starts : Starts) (chip : Chip) (history after : Log) → starts_of chip ≡ starts → Stands starts chip history.past → after.past ≡ history.past → after.limit ≡ history.limit
-    → length history.past ≤ weight_of history.past → history.limit ≡ WEIGHT_LIMIT → Together chip after
-together_stopped starts chip history after same stands is limit weighed limited = record {
+    → history.limit ≡ WEIGHT_LIMIT → Together chip after
+together_stopped starts chip history after same stands is limit limited = record {
   stands = subst (λ (p : Past). Stands (starts_of chip) chip p) (sym is) (subst (λ (s : Starts). Stands s chip history.past) (sym same) stands);
-  weighed = subst (λ (p : Past). length p ≤ weight_of p) (sym is) weighed;
   limited = limit ∙ limited;
 }
 

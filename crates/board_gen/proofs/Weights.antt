@@ -1,5 +1,5 @@
--- A step weighs at most half of the bytes of its token and of one behind it.
-use Rattle.std.proofs.Common.{arith, ◌≡◌, ◌==◌, ℕ, ◌+◌, ◌*◌, ◌≤◌, Bool, true, false, cond, List, [], ◌∷◌, length, Option, None, Some, Result, Ok, Err, option_map, refl, sym, ap, ◌∙◌}
+-- A step adds to the weight at most half of the bytes of its token and of one behind it.
+use Rattle.std.proofs.Common.{arith, ◌≡◌, ◌==◌, ℕ, ◌+◌, ◌*◌, ◌/◌, ◌≤◌, Bool, true, false, cond, List, [], ◌∷◌, length, Option, None, Some, Result, Ok, Err, option_map, refl, sym, ap, ◌∙◌, subst}
 use Rattle.std.specs.List.{slice_split, onto_first}
 use Rattle.hex.specs.Hex.{decode_of, decode_sized}
 use Rattle.hex.specs.declared.error.FromHexError.{FromHexError}
@@ -7,14 +7,20 @@ use Rattle.hex.proofs.HexLemmas.{decode_of-ok}
 use Rattle.board_bus.specs.declared.event.BusEvent.{BusEvent}
 use Rattle.board_bus.specs.declared.event.BusEvent.TheVariants.{Select, Look}
 use Rattle.chip_sheet.specs.declared.event.Addr.{Addr}
+use Rattle.chip_sheet.specs.declared.event.Entry.{Entry}
+use Rattle.chip_sheet.specs.declared.event.Entry.TheVariants.{Bus, Link}
 use Rattle.chip_sheet.specs.declared.event.LinkEntry.{LinkEntry}
 use Rattle.chip_sheet.specs.declared.event.LinkEntry.TheVariants.{Linked, Accepted, Refused, TimedOut, Took, Got, Datagram, Ended, Shut, Failed, Dropped}
 use Rattle.chip_sheet.specs.Replay.{Step, Asks, Happens}
 use Rattle.board_bus.specs.declared.event.BusAnswer.{BusAnswer}
 use Rattle.chip_sheet.specs.Past.{Past}
+use Rattle.chip_sheet.specs.Answers.{answer}
 use Rattle.chip_sheet.specs.Streams.{Starts}
-use Rattle.chip_hist.specs.Log.{begun, link_data, weight_of}
+use Rattle.chip_hist.specs.Log.{begun, link_data, most_weight}
+use Rattle.chip_hist.proofs.Weight.{room_begins, room_after, room_less}
 use Rattle.board_gen.specs.Session.{Takes}
+use Rattle.board_gen.specs.SessionState.{HasTextRoom}
+use Rattle.board_gen.specs.declared.session.TheConstants.{WEIGHT_LIMIT}
 use Rattle.board_gen.specs.Links.{bare, peer, datagram_of, what, socket, happens, link_parts}
 use Rattle.board_read.specs.Bytes.{bytes_read}
 use Rattle.board_read.specs.Numbers.{count}
@@ -160,9 +166,21 @@ step_light (a ∷ b ∷ []) step is = byte_light (length (a ∷ b ∷ [])) step 
 step_light (a ∷ b ∷ c ∷ more) step is =
     let text = a ∷ b ∷ c ∷ more in link_light (length text) _ step (split_within (λ x. x == 58) (length text) text refl) (omega arith) is
 
--- what a taken step adds to the weight
-pub taken_weight : (starts : Starts) (old new : Past) (step : Step) (a : Option BusAnswer) → Takes starts old step a new → weight_of new ≡ step_weight step + weight_of old
-taken_weight starts old new (Asks e) (Some a) takes = ap weight_of takes.2
-taken_weight starts old new (Asks e) None takes = absurd takes
-taken_weight starts old new (Happens n what) (Some a) takes = absurd takes
-taken_weight starts old new (Happens n what) None takes = ap weight_of takes.1
+-- the room for text, at the start, for a shorter text, and behind an entry for which two bytes or more of it stand for each unit
+pub text_begins : (bytes : ℕ) → bytes ≤ 2 * WEIGHT_LIMIT → HasTextRoom [] bytes
+text_begins bytes short = room_begins ((bytes + 1) / 2) WEIGHT_LIMIT (omega (arith, short))
+
+pub text_less : (past : Past) (bytes fewer : ℕ) → HasTextRoom past bytes → fewer ≤ bytes → HasTextRoom past fewer
+text_less past bytes fewer room less = room_less past ((bytes + 1) / 2) ((fewer + 1) / 2) WEIGHT_LIMIT room (omega (arith, less))
+
+pub text_after : (old new : Past) (entry : Entry) (bytes more : ℕ) → new ≡ entry ∷ old → HasTextRoom old bytes → 2 * most_weight entry + more ≤ bytes → HasTextRoom new more
+text_after old new entry bytes more is room takes =
+    let left : most_weight entry + (more + 1) / 2 ≤ (bytes + 1) / 2 = omega (arith, takes) in
+    subst (λ (p : Past). HasTextRoom p more) (sym is) (room_after old entry ((bytes + 1) / 2) ((more + 1) / 2) WEIGHT_LIMIT room left)
+
+-- what a taken step leaves of it
+pub text_taken : (starts : Starts) (old new : Past) (step : Step) (a : Option BusAnswer) (bytes more : ℕ) → Takes starts old step a new → HasTextRoom old bytes → 2 * step_weight step + more ≤ bytes → HasTextRoom new more
+text_taken starts old new (Asks e) (Some a) bytes more takes room few = text_after old new (Bus e (answer starts old e)) bytes more takes.2 room (omega (arith, few))
+text_taken starts old new (Asks e) None bytes more takes room few = absurd takes
+text_taken starts old new (Happens n did) (Some a) bytes more takes room few = absurd takes
+text_taken starts old new (Happens n did) None bytes more takes room few = text_after old new (Link n did) bytes more takes.1 room (omega (arith, few))

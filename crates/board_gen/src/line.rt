@@ -1,11 +1,10 @@
 // Takes the steps of a line, one after another.
-ghost use Rattle.std.specs.Prelude.{◌≡◌, ◌≤◌, ◌+◌, ◌*◌, [], Some, None, IfOk, OnOk, length, IsSome};
+ghost use Rattle.std.specs.Prelude.{◌≡◌, ◌+◌, [], Some, None, IfOk, OnOk, length, IsSome};
 ghost use Rattle.chip_sheet.specs.Replay.{told};
-ghost use Rattle.chip_hist.specs.Log.{weight_of};
 ghost use Rattle.board_gen.specs.Tokens.{steps, token_step, tokens};
 ghost use Rattle.board_gen.specs.Views.{step_of};
 ghost use Rattle.board_gen.specs.Run.{steps_in, GivesLine, GivesStep, GivesWord};
-ghost use Rattle.board_gen.specs.declared.session.TheConstants.{WEIGHT_LIMIT};
+ghost use Rattle.board_gen.specs.SessionState.{HasTextRoom, Spends};
 
 use crate::cuts::first_token;
 use crate::session::{Halt, Session};
@@ -28,7 +27,7 @@ fn token_in(alloc: Global, text: &[u8]) -> Result<Token, AllocError>
 // Takes a step, and adds the answer to the text of those before it.
 fn take_and_print(session: &mut Session, token: &Token, text: &mut Vec<u8>) -> Result<(), Halt>
     requires running { session.old.stopped ≡ None }
-    requires light { weight_of session.old.past ≤ WEIGHT_LIMIT }
+    requires light { HasTextRoom session.old.past 0 }
     ensures gives { GivesStep session.old.starts session.old.past (step_of token.now) result session.new.past text.old.items text.new.items }
     ensures starts { session.new.starts ≡ session.old.starts }
     ensures running { OnOk result (session.new.stopped ≡ None) }
@@ -52,7 +51,7 @@ fn take_word(
 ) -> Result<(), Halt>
     requires read { IsSome (token_step word.now) }
     requires running { session.old.stopped ≡ None }
-    requires light { weight_of session.old.past ≤ WEIGHT_LIMIT }
+    requires light { HasTextRoom session.old.past 0 }
     ensures gives { GivesWord session.old.starts session.old.past (token_step word.now) result session.new.past text.old.items text.new.items }
     ensures starts { session.new.starts ≡ session.old.starts }
     ensures running { OnOk result (session.new.stopped ≡ None) }
@@ -76,12 +75,12 @@ pub fn run_line(
 ) -> Result<(), Halt>
     requires read { IsSome (steps (tokens line.now)) }
     requires running { session.old.stopped ≡ None }
-    requires light { 2 * weight_of session.old.past + length line.now ≤ 2 * WEIGHT_LIMIT }
+    requires light { HasTextRoom session.old.past (length line.now) }
     requires empty { text.old.items ≡ [] }
     ensures gives { GivesLine (told session.old.starts session.old.past (steps_in line.now)) result session.new.past text.new.items }
     ensures starts { session.new.starts ≡ session.old.starts }
     ensures running { OnOk result (session.new.stopped ≡ None) }
-    ensures spent { OnOk result (2 * weight_of session.new.past ≤ 2 * weight_of session.old.past + length line.now + 1) }
+    ensures spent { OnOk result (Spends session.old.past (length line.now + 1) session.new.past) }
 {
     let mut rest = line;
     while let Some((word, after)) = first_token(rest) {

@@ -1,14 +1,13 @@
 // Runs the lines of a script, one after another.
-ghost use Rattle.std.specs.Prelude.{◌≡◌, ◌≤◌, ◌<◌, ◌+◌, ◌*◌, ◌^◌, [], None, OnOk, Option, List, ℕ, length, IsSome};
+ghost use Rattle.std.specs.Prelude.{◌≡◌, ◌<◌, ◌+◌, ◌^◌, [], None, OnOk, Option, List, ℕ, length, IsSome};
 ghost use Rattle.wz_base.specs.Outside.{RisesOnly};
 ghost use Rattle.chip_sheet.specs.Past.{Past};
-ghost use Rattle.chip_hist.specs.Log.{weight_of};
 ghost use Rattle.board_gen.specs.Tokens.{steps, tokens};
 ghost use Rattle.board_gen.specs.Script.{script_lines};
 ghost use Rattle.board_gen.specs.Faults.{AllRead};
 ghost use Rattle.board_gen.specs.Shown.{Shown, one_shown, shown_from, Shows};
 ghost use Rattle.board_gen.specs.Run.{ended, lines_in, steps_in, IsEnded, IsOwn, Keeps};
-ghost use Rattle.board_gen.specs.declared.session.TheConstants.{WEIGHT_LIMIT};
+ghost use Rattle.board_gen.specs.SessionState.{HasTextRoom, Spends};
 
 use crate::cuts::first_line;
 use crate::end::ScriptStop;
@@ -68,11 +67,11 @@ fn run_and_print<K: Sink>(
 ) -> ScriptStop
     requires read { IsSome (steps (tokens line.now)) }
     requires running { session.old.stopped ≡ None }
-    requires light { 2 * weight_of session.old.past + length line.now ≤ 2 * WEIGHT_LIMIT }
+    requires light { HasTextRoom session.old.past (length line.now) }
     ensures keeps { Keeps (one_shown session.old.starts session.old.past number (steps_in line.now)) result session.new.past lines.old lines.new (K.written out.old) (K.written out.new) }
     ensures starts { session.new.starts ≡ session.old.starts }
     ensures running { result ≡ ScriptStop.Done → session.new.stopped ≡ None }
-    ensures spent { result ≡ ScriptStop.Done → 2 * weight_of session.new.past ≤ 2 * weight_of session.old.past + length line.now + 1 }
+    ensures spent { result ≡ ScriptStop.Done → Spends session.old.past (length line.now + 1) session.new.past }
     ensures faults { RisesOnly (result ≡ ScriptStop.WriteFault) (K.faults out.old) (K.faults out.new) }
 {
     text.clear();
@@ -103,7 +102,7 @@ fn run_lines<K: Sink>(
     requires read { AllRead (script_lines script.now) }
     requires running { session.old.stopped ≡ None }
     requires few { first + length script.now < 2 ^ 32 }
-    requires light { 2 * weight_of session.old.past + length script.now ≤ 2 * WEIGHT_LIMIT }
+    requires light { HasTextRoom session.old.past (length script.now) }
     requires empty { lines.old ≡ [] }
     ensures keeps { Keeps (shown_from session.old.starts session.old.past first (lines_in script.now)) result session.new.past [] lines.new (K.written out.old) (K.written out.new) }
     ensures starts { session.new.starts ≡ session.old.starts }
@@ -136,7 +135,7 @@ pub fn run_script<K: Sink>(
     requires read { AllRead (script_lines script.now) }
     requires running { session.old.stopped ≡ None }
     requires few { first + length script.now < 2 ^ 32 }
-    requires light { 2 * weight_of session.old.past + length script.now ≤ 2 * WEIGHT_LIMIT }
+    requires light { HasTextRoom session.old.past (length script.now) }
     requires empty { lines.old ≡ [] }
     ensures shows { Shows (shown_from session.old.starts session.old.past first (lines_in script.now)) result session.new.past (K.written out.old) (K.written out.new) }
     ensures starts { session.new.starts ≡ session.old.starts }

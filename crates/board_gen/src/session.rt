@@ -1,14 +1,14 @@
 // A chip with its history.
-ghost use Rattle.std.specs.Prelude.{◌≡◌, ◌≤◌, ◌<◌, [], ◌∷◌, None, Some, IfOk, OnOk, OnErr, IfErr, false, true, length};
+ghost use Rattle.std.specs.Prelude.{◌≡◌, ◌<◌, [], ◌∷◌, None, Some, IfOk, OnOk, OnErr, IfErr, false, true, length};
 ghost use Rattle.board_bus.specs.declared.event.BusAnswer.{BusAnswer};
 ghost use Rattle.chip_sheet.specs.declared.event.Entry.TheVariants.{Link};
 ghost use Rattle.chip_sheet.specs.Past.{link_entry};
 ghost use Rattle.chip_sheet.specs.Legal.{Legal};
 ghost use Rattle.chip_sheet.specs.LinkCalls.{fits};
 ghost use Rattle.chip_sheet.specs.Replay.{Asks, Happens};
-ghost use Rattle.chip_hist.specs.Log.{weight_of, link_data};
+ghost use Rattle.chip_hist.specs.Log.{link_data};
+ghost use Rattle.board_gen.specs.SessionState.{HasTextRoom};
 ghost use Rattle.board_gen.specs.Views.{entry_of, step_of};
-ghost use Rattle.board_gen.specs.declared.session.TheConstants.{WEIGHT_LIMIT};
 
 use crate::token::{LinkToken, Token};
 use chip_core::Chip;
@@ -89,7 +89,7 @@ impl Session {
     // One event of the bus, which is added to the history with the chip's answer.
     fn ask(&mut self, e: BusEvent) -> Result<BusAnswer, Halt>
         requires running { self.old.stopped ≡ None }
-        requires light { weight_of self.old.past ≤ WEIGHT_LIMIT }
+        requires light { HasTextRoom self.old.past 0 }
         ensures ok { IfOk result (λ a. Takes self.old.starts self.old.past (Asks e) (Some a) self.new.past) }
         ensures err { IfErr result (Halts self.old.starts self.old.past (Asks e)) }
         ensures starts { self.new.starts ≡ self.old.starts }
@@ -113,7 +113,7 @@ impl Session {
     // What the link below a socket did, which is added to the history where it fits.
     fn happen(&mut self, sn: u8, token: &LinkToken) -> Result<(), Halt>
         requires running { self.old.stopped ≡ None }
-        requires light { weight_of self.old.past ≤ WEIGHT_LIMIT }
+        requires light { HasTextRoom self.old.past 0 }
         requires sn { sn < 8 }
         ensures ok { OnOk result (Takes self.old.starts self.old.past (Happens sn (entry_of token.now)) None self.new.past) }
         ensures err { IfErr result (Halts self.old.starts self.old.past (Happens sn (entry_of token.now))) }
@@ -144,7 +144,7 @@ impl Session {
     /// history is as before then.
     pub fn take(&mut self, token: &Token) -> Result<Option<BusAnswer>, Halt>
         requires running { self.old.stopped ≡ None }
-        requires light { weight_of self.old.past ≤ WEIGHT_LIMIT }
+        requires light { HasTextRoom self.old.past 0 }
         ensures ok { IfOk result (λ a. Takes self.old.starts self.old.past (step_of token.now) a self.new.past) }
         ensures err { IfErr result (Halts self.old.starts self.old.past (step_of token.now)) }
         ensures starts { self.new.starts ≡ self.old.starts }

@@ -1,8 +1,9 @@
-use Rattle.std.proofs.Common.{arith, ◌∙◌}
+use Rattle.std.proofs.Common.{◌≤◌, ℕ, ◌+◌, ◌*◌, length, arith, ◌∙◌}
+use Rattle.board_gen.specs.SessionState.{HasTextRoom}
 use Rattle.board_gen.specs.Tokens.{tokens}
 use Rattle.board_gen.proofs.Each.{steps_rest}
 use Rattle.board_gen.proofs.ToldLine.{line_more, line_halts, word_is}
-use Rattle.board_gen.proofs.Weights.{step_light, taken_weight}
+use Rattle.board_gen.proofs.Weights.{step_light, step_weight, text_less, text_taken}
 use Rattle.board_gen.proofs.line.run_line.Goals as goal
 
 pub returns-in-Err-clause-gives : goal.returns-in-Err-clause-gives
@@ -16,7 +17,9 @@ loop-word-preserved c =
     let is = word_is c.loop-word.rest.now c.in-Some.after.now c.in-Some.word.now c.in-Some.ensures.tokens c.loop-word.invariant.read in
     let taken = rw is.1 at c.in-Ok.ensures.gives in
     let light = step_light c.in-Some.word.now is.0 is.1 in
-    let weight = taken_weight c.loop-word.session.starts c.loop-word.session.past _ is.0 taken.answer taken.takes in
+    let past = c.loop-word.session.past in
+    let rest = length c.loop-word.rest.now in
+    let takes = λ (bytes more : ℕ) (room : HasTextRoom past bytes) (few : 2 * step_weight is.0 + more ≤ bytes). text_taken c.loop-word.session.starts past c.take_word.new.session.past is.0 taken.answer bytes more taken.takes room few in
     let some = c.in-Some.ensures.shorter in
     let within = c.in-Some.ensures.within in
     let between = c.in-Some.ensures.between in
@@ -27,6 +30,8 @@ loop-word-preserved c =
       starts = c.in-Ok.ensures.starts ∙ c.loop-word.invariant.starts;
       so_far = rw c.in-Ok.ensures.starts (line_more c.loop-word.session.starts _ c.loop-word.session.past _ c.loop-word.rest.now c.in-Some.after.now c.in-Some.word.now is.0 c.loop-word.text.items _
           taken c.in-Some.ensures.tokens is.1 c.loop-word.invariant.read c.loop-word.invariant.so_far);
-      spent = omega (arith, light, weight, some, within, left);
-      left = λ more. omega (arith, light, weight, some, within, between, left, more);
+      spent = λ more room.
+          let here = left (omega (arith, some)) (1 + more) (text_less c.args.session.now.past _ (length c.args.line.now + (1 + more)) room (omega arith)) in
+          takes (rest + (1 + more)) more here (omega (arith, light, within));
+      left = λ further more room. let fits = between further in takes (rest + more) (length c.in-Some.after.now + more) (left (omega (arith, some)) more room) (omega (arith, light, fits));
     }

@@ -1,6 +1,7 @@
-use Rattle.std.proofs.Common.{arith, map, refl, ap, ◌∙◌}
+use Rattle.std.proofs.Common.{arith, length, map, refl, ap, ◌∙◌}
 use Rattle.board_gen.specs.Run.{lines_in, steps_in}
 use Rattle.board_gen.proofs.ToldLines.{far_on, lines_more, lines_halt}
+use Rattle.board_gen.proofs.Weights.{text_less}
 use Rattle.board_gen.proofs.run.run_lines.Goals as goal
 
 pub returns-in_default-run_and_print-clause-keeps : goal.returns-in_default-run_and_print-clause-keeps
@@ -26,5 +27,5 @@ loop-line-preserved g c =
           c.in-Done.ensures.keeps far);
       faults = c.in-Done.ensures.faults.still (λ e. cc) ∙ c.loop-line.invariant.faults;
       few = omega (arith, c.loop-line.invariant.few, shorter);
-      light = λ more. omega (arith, spent, shorter, between, light, more);
+      light = λ more. let fits = between more in spent (length c.in-Some.after.now) (text_less c.loop-line.session.past (length c.loop-line.rest.now) _ (light (omega (arith, shorter))) (omega (arith, fits)));
     }

@@ -1,9 +1,8 @@
-use Rattle.std.proofs.Common.{◌≡◌, ◌≤◌, ◌<◌, ◌+◌, ◌*◌, None, length}
-use Rattle.chip_hist.specs.Log.{weight_of}
-use Rattle.board_gen.specs.declared.session.TheConstants.{WEIGHT_LIMIT}
+use Rattle.std.proofs.Common.{◌≡◌, ◌≤◌, ◌<◌, ◌+◌, None, length}
 use Rattle.board_gen.specs.Faults.{AllRead}
 use Rattle.board_gen.specs.Run.{lines_in}
 use Rattle.board_gen.specs.Script.{script_lines}
+use Rattle.board_gen.specs.SessionState.{HasTextRoom}
 use Rattle.board_gen.specs.Shown.{shown_from}
 use Rattle.board_gen.proofs.ToldLines.{LinesSoFar}
 use Rattle.board_gen.proofs.run.run_lines.Given as goal
@@ -16,7 +15,7 @@ invariant-loop-line g l = record {
   so_far : LinesSoFar (shown_from l.fn.session.starts l.fn.session.past l.first (lines_in l.fn.script)) (shown_from l.session.starts l.session.past l.number (lines_in l.rest)) l.lines (g.K.Sink.written l.fn.out) (g.K.Sink.written l.out);
   faults : g.K.Sink.faults l.out ≡ g.K.Sink.faults l.fn.out;
   few : l.number + length l.rest ≤ l.first + length l.fn.script;
-  light : 0 < length l.rest → 2 * weight_of l.session.past + length l.rest ≤ 2 * WEIGHT_LIMIT;
+  light : 0 < length l.rest → HasTextRoom l.session.past (length l.rest);
 }
 
 abbrev pub decreases-loop-line : goal.decreases-loop-line

@@ -1,4 +1,4 @@
-use Rattle.std.proofs.Common.{◌∷◌, arith, ap, ◌∙◌}
+use Rattle.std.proofs.Common.{◌∷◌, ap, ◌∙◌}
 use Rattle.chip_sheet.specs.declared.event.Entry.TheVariants.{Bus}
 use Rattle.chip_core.specs.Chip.{starts_of}
 use Rattle.board_gen.specs.SessionState.{SessionState}
@@ -9,7 +9,7 @@ use Rattle.board_gen.proofs.session.Session.ask.Goals as goal
 pub bus-requires : goal.bus-requires
 bus-requires c =
     c.short_is_few.ensures (starts_of c.self.inside.chip) c.self.inside.chip c.self.inside.history.past c.self.invariant.stands
-    (short c.self.inside.history.past c.args.self.now.past (ap (λ (s : SessionState). s.past) c.self.view_is) c.self.invariant.weighed c.requires.light)
+    (short c.self.inside.history.past c.args.self.now.past (ap (λ (s : SessionState). s.past) c.self.view_is) c.requires.light)
 
 pub invariant_of-self-in-Ok : goal.invariant_of-self-in-Ok
 invariant_of-self-in-Ok c =
@@ -17,7 +17,7 @@ invariant_of-self-in-Ok c =
     let past = c.self.inside.history.past in
     let stands = (c.in-Ok.ensures.answered starts past c.self.invariant.stands).stands in
     together_after starts c.bus.new.self past (Bus c.args.e c.in-Ok.a) c.push.new.self (c.starts_are.ensures starts c.bus.new.self _ stands) stands
-    (rw c.reserve.ensures.past at c.push.ensures.past) (omega arith) c.self.invariant.weighed (c.push.ensures.limit ∙ c.reserve.ensures.limit ∙ c.self.invariant.limited)
+    (rw c.reserve.ensures.past at c.push.ensures.past) (c.push.ensures.limit ∙ c.reserve.ensures.limit ∙ c.self.invariant.limited)
 
 pub returns-in-Ok-clause-starts : goal.returns-in-Ok-clause-starts
 returns-in-Ok-clause-starts c =
@@ -30,7 +30,7 @@ invariant_of-self-in-Err c =
     let starts = starts_of c.self.inside.chip in
     let past = c.self.inside.history.past in
     let stands = (c.in-Err.ensures.stopped starts past c.self.invariant.stands).stands in
-    together_stopped starts c.bus.new.self c.self.inside.history c.reserve.new.self (c.starts_are.ensures starts c.bus.new.self past stands) stands c.reserve.ensures.past c.reserve.ensures.limit c.self.invariant.weighed c.self.invariant.limited
+    together_stopped starts c.bus.new.self c.self.inside.history c.reserve.new.self (c.starts_are.ensures starts c.bus.new.self past stands) stands c.reserve.ensures.past c.reserve.ensures.limit c.self.invariant.limited
 
 pub returns-in-Ok-clause-ok : goal.returns-in-Ok-clause-ok
 returns-in-Ok-clause-ok c =

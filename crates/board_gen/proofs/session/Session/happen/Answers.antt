@@ -1,4 +1,4 @@
-use Rattle.std.proofs.Common.{◌∷◌, true, false, arith, ap, ◌∙◌}
+use Rattle.std.proofs.Common.{◌∷◌, true, false, ap, ◌∙◌}
 use Rattle.chip_sheet.specs.declared.event.Entry.TheVariants.{Link}
 use Rattle.chip_core.specs.Chip.{starts_of}
 use Rattle.board_gen.specs.SessionState.{SessionState}
@@ -11,7 +11,7 @@ use Rattle.board_gen.proofs.session.Session.happen.Goals as goal
 pub link-requires-clause-few : goal.link-requires-clause-few
 link-requires-clause-few c =
     c.short_is_few.ensures (starts_of c.self.inside.chip) c.self.inside.chip c.self.inside.history.past c.self.invariant.stands
-    (short c.self.inside.history.past c.args.self.now.past (ap (λ (s : SessionState). s.past) c.self.view_is) c.self.invariant.weighed c.requires.light)
+    (short c.self.inside.history.past c.args.self.now.past (ap (λ (s : SessionState). s.past) c.self.view_is) c.requires.light)
 
 pub invariant_of-self-2 : goal.invariant_of-self-2
 invariant_of-self-2 c =
@@ -19,7 +19,7 @@ invariant_of-self-2 c =
     let past = c.self.inside.history.past in
     let stands = c.link.ensures.stands starts past c.self.invariant.stands in
     together_after starts c.link.new.self past (Link c.args.sn (link_entry c.what-what.result)) c.push.new.self (c.starts_are.ensures starts c.link.new.self _ stands) stands
-    (rw c.reserve.ensures.past at c.push.ensures.past) (omega arith) c.self.invariant.weighed (c.push.ensures.limit ∙ c.reserve.ensures.limit ∙ c.self.invariant.limited)
+    (rw c.reserve.ensures.past at c.push.ensures.past) (c.push.ensures.limit ∙ c.reserve.ensures.limit ∙ c.self.invariant.limited)
 
 pub returns-clause-starts : goal.returns-clause-starts
 returns-clause-starts c =
