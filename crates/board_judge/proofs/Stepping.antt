@@ -19,7 +19,8 @@ use Rattle.board_gen.specs.declared.session.TheConstants.{WEIGHT_LIMIT}
 use Rattle.board_judge.specs.declared.end.JudgeFault.{JudgeFault}
 use Rattle.board_judge.specs.declared.end.JudgeFault.TheVariants.{Differs, Unfit, Stops}
 use Rattle.board_judge.specs.Judged.{answer_byte, answered, breach, compared, same_answer}
-use Rattle.board_judge.specs.Run.{HasRoom, Together}
+use Rattle.board_gen.specs.SessionState.{HasTextRoom}
+use Rattle.board_judge.specs.Run.{Together}
 use Rattle.board_judge.proofs.Wrongs.{same_true}
 
 -- an event that was answered
@@ -60,7 +61,7 @@ link_is starts past place n what entry b same few due len =
     sym (ap (breach starts past) same ∙ (λ i. cond (lt-ltb n 8 few i && due i) None (Some (Unfit (len i)))))
 
 -- a history that has room is short
-pub short : (past : Past) → HasRoom past 0 → length past < 2 ^ 60
+pub short : (past : Past) → HasTextRoom past 0 → length past < 2 ^ 60
 short past room = omega (arith, room.few)
 
 -- the chip and the history after an entry

@@ -1,12 +1,12 @@
 -- What the program gives of entries while it judges them.
-use Rattle.std.specs.Prelude.{◌≡◌, ◌≤◌, ◌<◌, ℕ, ◌+◌, ◌*◌, List, [], ◌∷◌, map, length, unwrap_or, None, Some, IsSome, Result, Ok, Err}
+use Rattle.std.specs.Prelude.{◌≡◌, ◌<◌, ℕ, List, [], ◌∷◌, map, unwrap_or, None, Some, IsSome, Result, Ok, Err}
 use Rattle.chip_sheet.specs.declared.event.Entry.{Entry}
 use Rattle.chip_sheet.specs.declared.event.Entry.TheVariants.{Bus, Link, Rest}
 use Rattle.chip_sheet.specs.Past.{Past, GoesOn}
 use Rattle.chip_sheet.specs.Streams.{Starts}
 use Rattle.chip_core.specs.declared.chip.Chip.{Chip}
 use Rattle.chip_core.specs.Chip.{Stands, stop_kept}
-use Rattle.chip_hist.specs.Log.{Log, weight_of}
+use Rattle.chip_hist.specs.Log.{Log}
 use Rattle.board_gen.specs.declared.session.TheConstants.{WEIGHT_LIMIT}
 use Rattle.board_judge.specs.declared.run.Halt.{Halt}
 use Rattle.board_judge.specs.declared.run.Halt.TheVariants.{Broken, NoMemory}
@@ -32,11 +32,6 @@ abbrev pub IsOfChip : Entry → Type 0
 IsOfChip (Link n what) = n < 8
 IsOfChip (Bus e a) = Unit {0}
 IsOfChip Rest = Unit {0}
-
--- So many bytes of entries may come yet: each takes two bytes or more for each unit of its weight, and two for itself.
-pub record HasRoom (past : Past) (bytes : ℕ) : Type 0 where
-  pub weight : 2 * weight_of past + bytes ≤ 2 * WEIGHT_LIMIT
-  pub few : 2 * length past + bytes ≤ 2 * WEIGHT_LIMIT
 
 -- The chip stands for the history, and keeps no stop.
 pub record Together (starts : Starts) (chip : Chip) (history : Log) : Type 0 where

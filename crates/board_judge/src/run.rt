@@ -3,10 +3,11 @@ ghost use Rattle.std.specs.Prelude.{◌≡◌, ◌≤◌, ◌*◌, [], Some, IfO
 ghost use Rattle.chip_sheet.specs.Past.{entry_of};
 ghost use Rattle.chip_sheet.specs.Legal.{Legal};
 ghost use Rattle.chip_core.specs.Chip.{starts_of};
+ghost use Rattle.board_gen.specs.SessionState.{HasTextRoom};
 ghost use Rattle.board_gen.specs.declared.session.TheConstants.{WEIGHT_LIMIT};
 ghost use Rattle.board_judge.specs.Entries.{entry_read};
 ghost use Rattle.board_judge.specs.Judged.{judged};
-ghost use Rattle.board_judge.specs.Run.{AllRead, GivesEntry, GivesJudged, HasRoom, IsOfChip, Together, entry_of_line, entries_in};
+ghost use Rattle.board_judge.specs.Run.{AllRead, GivesEntry, GivesJudged, IsOfChip, Together, entry_of_line, entries_in};
 ghost use Rattle.board_judge.specs.Trace.{trace_lines};
 ghost use Rattle.board_judge.specs.Views.{entry_said};
 
@@ -34,7 +35,7 @@ pub enum Halt {
 // Judges an event, which is added to the history where the datasheet allows it.
 fn judge_event(chip: &mut Chip, history: &mut History, event: Event<'_>) -> Result<(), Halt>
     requires together { Together (starts_of chip.old) chip.old history.old }
-    requires room { HasRoom history.old.past 0 }
+    requires room { HasTextRoom history.old.past 0 }
     requires chip { IsOfChip (entry_of event) }
     ensures gives { GivesEntry (starts_of chip.old) history.old.past (entry_of event.entry) result history.new.past }
     ensures together { OnOk result (Together (starts_of chip.old) chip.new history.new) }
@@ -74,7 +75,7 @@ fn judge_line(
 ) -> Result<(), Halt>
     requires read { IsSome (entry_read line.now) }
     requires together { Together (starts_of chip.old) chip.old history.old }
-    requires room { HasRoom history.old.past 0 }
+    requires room { HasTextRoom history.old.past 0 }
     ensures gives { GivesEntry (starts_of chip.old) history.old.past (entry_of_line line.now) result history.new.past }
     ensures together { OnOk result (Together (starts_of chip.old) chip.new history.new) }
     ensures starts { OnOk result (starts_of chip.new ≡ starts_of chip.old) }

@@ -1,11 +1,26 @@
-use Rattle.std.proofs.Common.{◌≡◌, arith, Err, None, map, subst, ap, ◌∙◌}
+use Rattle.std.proofs.Common.{◌≡◌, arith, Err, None, length, map, refl, subst, ap, ◌∙◌}
+use Rattle.chip_sheet.specs.Past.{Past}
 use Rattle.chip_sheet.specs.Streams.{Starts}
 use Rattle.chip_core.specs.Chip.{starts_of}
-use Rattle.board_judge.specs.Judged.{breach}
+use Rattle.board_judge.specs.Judged.{breach, judged}
 use Rattle.board_judge.specs.Run.{GivesEntry, Together, entries_in, entry_of_line}
 use Rattle.board_judge.proofs.Verdicts.{judged_halts, judged_on, there_is}
-use Rattle.board_judge.proofs.Weights.{room_left}
+use Rattle.board_judge.proofs.Weights.{room_first, room_here, room_left}
 use Rattle.board_judge.proofs.run.judge_lines.Goals as goal
+
+pub loop-line-init : goal.loop-line-init
+loop-line-init c = record {
+  read = c.requires.read;
+  together = c.requires.together;
+  starts = refl;
+  so_far = ap (λ (p : Past). judged (starts_of c.args.chip.now) p (entries_in c.args.text.now)) c.requires.empty;
+  room = λ some. room_first c.args.history.now.past (length c.args.text.now) c.requires.empty c.requires.short;
+}
+
+pub judge_line-requires-clause-room : goal.judge_line-requires-clause-room
+judge_line-requires-clause-room c =
+    let shorter = c.in-Some.ensures.shorter in
+    room_here c.loop-line.history.past _ (c.loop-line.invariant.room (omega (arith, shorter)))
 
 pub returns-in-Err-clause-gives : goal.returns-in-Err-clause-gives
 returns-in-Err-clause-gives c =
