@@ -4,7 +4,7 @@ use Rattle.chip_shared.specs.Calling.{first_due}
 use Rattle.chip_shared.specs.Sweeping.{goes_on_from}
 use Rattle.board_sim.specs.Boards.{Board, is_full_at}
 use Rattle.board_sim.specs.Sweeps.{Swept, whole, cut_off, did, linked, idled, swept_from, rested, recounted, is_sweep_due}
-use Rattle.board_sim.specs.Closes.{drained, closed_from, closed, is_out_due_on, went_on}
+use Rattle.board_sim.specs.Closes.{drained, closed_from, closed, is_out_due_on, most_steps, went_on}
 
 -- A relation of boards that link steps keep, and counts that begin anew.
 pub record IsKept (R : Board → Board → Type 0) : Type 0 where
@@ -59,8 +59,8 @@ closes_keep : (R : Board → Board → Type 0) → IsKept R → (more : ℕ) (b 
 unfolding closed_from
 closes_keep R kept zero b n = kept.same b
 closes_keep R kept (suc more) b n =
-    let d = drained (b.events + 1) b n in
-    let here = drains_keep R kept (b.events + 1) b n in
+    let d = drained (most_steps b n) b n in
+    let here = drains_keep R kept (most_steps b n) b n in
     chosen (R b) d.cut d.board (closed_from more d.board (n + 1)) here
     (kept.still b d.board (closed_from more d.board (n + 1)) here (closes_keep R kept more d.board (n + 1)))
 

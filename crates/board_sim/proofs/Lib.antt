@@ -1,6 +1,5 @@
 pub mod LinkSteps
 pub mod Swept
-pub mod Weights
 pub mod Closed
 pub mod Walks
 pub mod Lines

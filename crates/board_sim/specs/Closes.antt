@@ -1,5 +1,7 @@
 -- Closing: once the firmware has ended, what is in flight is offered to the links.
-use Rattle.std.specs.Prelude.{ℕ, zero, suc, ◌+◌, ◌*◌, Bool, true, false, not, if◌then◌else◌}
+use Rattle.std.specs.Prelude.{ℕ, zero, suc, ◌+◌, ◌-◌, ◌*◌, length, Bool, true, false, not, if◌then◌else◌}
+use Rattle.chip_sheet.specs.Life.{lives}
+use Rattle.chip_sheet.specs.Streams.{sent, taken}
 use Rattle.chip_sheet.specs.LinkCalls.{due_at}
 use Rattle.chip_shared.specs.Calling.{is_due}
 use Rattle.chip_shared.specs.declared.shared.LinkDid.{LinkDid}
@@ -28,12 +30,22 @@ drained (suc most) b n =
     if went_on (did b (2 * n)) then drained most (linked b (2 * n)) n else
     whole (linked b (2 * n))
 
--- So many sockets from n on, one after another; where the history is full, that ends it. Each step that goes on adds an entry that weighs
--- something, so a socket takes no more steps than the history may weigh.
+-- The bytes that were sent in the present life of socket n, and that its link has not taken.
+abbrev pub untaken : Board → ℕ → ℕ
+untaken b n =
+    let life = lives b.past n in
+    length (sent b.starts b.past n life) - taken b.past n life
+
+-- No more link steps are made for a socket: a step that goes on takes some of those bytes, or it is one of three, which drop a life that
+-- closed, make the connection and tell its end; and one step may not go on.
+abbrev pub most_steps : Board → ℕ → ℕ
+most_steps b n = untaken b n + 4
+
+-- So many sockets from n on, one after another; where the history is full, that ends it.
 unfoldable pub closed_from : ℕ → Board → ℕ → Board
 closed_from zero b n = b
 closed_from (suc more) b n =
-    let d = drained (b.events + 1) b n in
+    let d = drained (most_steps b n) b n in
     if d.cut then d.board else closed_from more d.board (n + 1)
 
 abbrev pub closed : Board → Board
