@@ -1,16 +1,16 @@
 -- A step that is made in a turn: the entry that it adds, and what always holds behind it.
-use Rattle.std.proofs.Common.{◌≡◌, ◌≤◌, ◌<◌, ◌+◌, ◌*◌, ◌/◌, ℕ, suc, Bool, true, false, ◌||◌, leb, ◌∷◌, length, Option, None, Some, Ok, refl, sym, ap, ◌∙◌, subst, arith}
+use Rattle.std.proofs.Common.{◌≡◌, ◌≤◌, ◌<◌, ◌+◌, ◌*◌, ◌/◌, ℕ, suc, ◌∷◌, length, Option, None, Some, Ok, refl, sym, ap, ◌∙◌, subst, arith}
 use Rattle.std.specs.Prelude.{MatchOption}
-use Rattle.std.proofs.lemmas.Bool.{leb-false}
 use Rattle.board_bus.specs.declared.event.BusEvent.{BusEvent}
 use Rattle.board_bus.specs.declared.event.BusAnswer.{BusAnswer}
 use Rattle.chip_sheet.specs.declared.event.Entry.{Entry}
-use Rattle.chip_sheet.specs.declared.event.Entry.TheVariants.{Bus, Link, Rest}
+use Rattle.chip_sheet.specs.declared.event.Entry.TheVariants.{Bus, Rest}
 use Rattle.chip_sheet.specs.declared.stop.ChipStop.{ChipStop}
 use Rattle.chip_sheet.specs.LinkAnswers.{LinkAnswer, NotYet, Failed, entry_by}
 use Rattle.chip_sheet.specs.LinkCalls.{due_at}
 use Rattle.chip_sheet.specs.Windows.{flight, most_read}
-use Rattle.chip_hist.specs.Log.{Log, entry_data, entry_weight, is_full, weight_of}
+use Rattle.chip_hist.specs.Log.{begun, entry_data, most_weight, weight_of}
+use Rattle.chip_hist.proofs.Weight.{open_light, open_short, weight_rises}
 use Rattle.link_trait.specs.Calls.{Call}
 use Rattle.chip_shared.specs.State.{State, Keeps}
 use Rattle.chip_shared.specs.Asking.{Answered, IsOpen}
@@ -22,11 +22,11 @@ use Rattle.chip_lock.specs.declared.over.Over.TheVariants.{Stopped, TraceFull, N
 use Rattle.chip_lock.specs.Standing.{IsKept, KeptState}
 use Rattle.chip_lock.specs.Turns.{AnswersAt, IdlesAt, LinkMade, LinksAt, Takes, called}
 
--- A step was made that added this entry and made so many link calls. The entry weighs at most what one call can bring, and takes the
--- room of one event at most.
+-- A step was made that added this entry and made so many link calls. The entry adds to the weight at most what one call can bring, and
+-- takes the room of one event at most.
 pub record Added {L : Type 0} (old : State L) (count : ℕ) (entry : Entry) (new : State L) : Type 0 where
   pub before : IsOpen old
-  pub light : entry_weight entry ≤ 47
+  pub light : most_weight entry ≤ begun most_read + 1
   pub past : new.log.past ≡ entry ∷ old.log.past
   pub limit : new.log.limit ≡ old.log.limit
   pub starts : new.starts ≡ old.starts
@@ -65,10 +65,8 @@ bus_added old mid new e a it keeps same =
       events = it.events;
     }) keeps same
 
-weighs : (e : Entry) → length (entry_data e) ≤ 1472 → entry_weight e ≤ 47
-weighs Rest few = omega arith
-weighs (Bus e a) few = omega arith
-weighs (Link n what) few = omega (arith, few)
+weighs : (e : Entry) → length (entry_data e) ≤ most_read → most_weight e ≤ begun most_read + 1
+weighs e few = omega (arith, few)
 
 called_once : (place : ℕ) (answer : LinkAnswer) → called (did_at place answer) ≡ 1
 called_once place NotYet = refl
@@ -134,16 +132,6 @@ link_added effect old mid new from did it keeps same =
     let made = step_added effect old mid did (first_due old.starts old.log.past from) it.0 it.1 in
     record { entry = made.entry; adds = added_keeps old mid new (called did) made.entry made.adds keeps same; is = made.is }
 
-neither : (a b : Bool) → (a || b) ≡ false → (a ≡ false) × (b ≡ false)
-neither true b h = cc
-neither false b h = (refl, h)
-
-light_open : (log : Log) → is_full log ≡ false → weight_of log.past < log.limit
-light_open log open_ = leb-false log.limit (weight_of log.past) (neither (leb log.limit (weight_of log.past)) (leb 576460752303423488 (length log.past)) open_).0
-
-short_open : (log : Log) → is_full log ≡ false → length log.past < 576460752303423488
-short_open log open_ = leb-false 576460752303423488 (length log.past) (neither (leb log.limit (weight_of log.past)) (leb 576460752303423488 (length log.past)) open_).1
-
 -- Want of memory alone may be the cause behind a step that was made.
 abbrev pub IsDry : Option Over → Type 0
 IsDry cause = (c : Over) → cause ≡ Some c → c ≡ NoMemory
@@ -158,10 +146,11 @@ no_stop cause s dry is = let no = dry (Stopped s) is in cc
 pub kept_added : {L : Type 0} (old new : State L) (before after : Option Over) (live count : ℕ) (entry : Entry) → before ≡ None → IsKept old before live → 0 < live → Added old count entry new
     → IsDry after → (after ≡ None → 2 * live ≤ new.log.spare_events) → (after ≡ None → live * most_read ≤ new.log.spare_bytes) → IsKept new after live
 kept_added old new before after live count entry none kept some it dry turn_room data_room =
-    let weight : weight_of new.log.past ≡ entry_weight entry + weight_of old.log.past = ap weight_of it.past in
     let long : length new.log.past ≡ suc (length old.log.past) = ap length it.past in
-    let light = light_open old.log it.before.room in
-    let short = short_open old.log it.before.room in
+    let weight = ap weight_of it.past in
+    let rises = weight_rises entry old.log.past in
+    let light = open_light old.log it.before.room in
+    let short = open_short old.log it.before.room in
     let few = it.light in
     let limit = it.limit in
     let most = kept.few in
@@ -172,7 +161,7 @@ kept_added old new before after live count entry none kept some it dry turn_room
         stopped = λ s is. let both : None ≡ Some s = sym it.stopped ∙ is in cc;
         full = λ is. absurd (not_full after dry is);
       };
-      light = omega (arith, weight, light, few, limit);
+      light = omega (arith, weight, rises, light, few, limit);
       short = omega (arith, long, short, most);
       few = most;
       room = omega (arith, room, events, some);
@@ -186,7 +175,7 @@ pub takes_added : {L : Type 0} (old new : State L) (before after : Option Over) 
     → Takes k entry (record { state = new; cause = after; live = live; last = last })
 takes_added old new before after live count asked last entry k view none it dry =
     let long : length new.log.past ≡ suc (length old.log.past) = ap length it.past in
-    let short = short_open old.log it.before.room in
+    let short = open_short old.log it.before.room in
     subst (λ (x : KeptState _). Takes x entry (record { state = new; cause = after; live = live; last = last })) view (record {
       adds = it.past;
       starts = it.starts;
