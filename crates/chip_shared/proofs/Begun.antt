@@ -1,6 +1,5 @@
 -- A call that is due at a place, by the fields of the shared state: what the links need of it, and what its entry needs.
-use Rattle.std.proofs.Common.{◌≡◌, ◌<◌, ◌+◌, ◌^◌, ◌/◌, ℕ, Bool, true, false, ◌||◌, leb, ◌++◌, List, length, length-append, Option, refl, sym, ap, subst, arith}
-use Rattle.std.proofs.lemmas.Bool.{leb-false}
+use Rattle.std.proofs.Common.{◌≡◌, ◌<◌, ◌+◌, ◌^◌, ◌/◌, ℕ, true, ◌++◌, List, length, length-append, Option, sym, ap, subst, arith}
 use Rattle.chip_sheet.specs.declared.event.ConnId.{ConnId}
 use Rattle.chip_sheet.specs.declared.event.LinkWhat.{LinkWhat}
 use Rattle.chip_sheet.specs.declared.event.LinkEntry.{LinkEntry}
@@ -17,7 +16,8 @@ use Rattle.chip_sheet.proofs.FitLaws.{flight_within}
 use Rattle.chip_steps.proofs.OverLives.{size_within}
 use Rattle.chip_core.specs.declared.chip.Chip.{Chip}
 use Rattle.chip_core.specs.Chip.{Stands, Few, starts_of, fits_here}
-use Rattle.chip_hist.specs.Log.{Log, weight_of}
+use Rattle.chip_hist.specs.Log.{Log, IsLight}
+use Rattle.chip_hist.proofs.Weight.{open_light, open_short}
 use Rattle.link_trait.specs.Calls.{Call}
 use Rattle.link_trait.specs.Shown.{Shown}
 use Rattle.chip_sheet.specs.LinkAnswers.{LinkAnswer}
@@ -77,18 +77,14 @@ few_flying starts past n head tail few legal all =
     let small = size_within past tx_sizes n few in
     omega (arith, both, bytes, long, within, small)
 
-neither : (a b : Bool) → (a || b) ≡ false → (a ≡ false) × (b ≡ false)
-neither true b h = cc
-neither false b h = (refl, h)
-
 -- A history that is not full is light and short.
 pub few_calls : {L : Type 0} (chip : Chip) (log : Log) (links : L) (calls place : ℕ) (call : Due) → Begins (state_of chip log links calls) place call → length log.past < 576460752303423488
 few_calls chip log links calls place call begins =
-    leb-false 576460752303423488 (length log.past) (neither (leb log.limit (weight_of log.past)) (leb 576460752303423488 (length log.past)) begins.open_.room).1
+    open_short log begins.open_.room
 
-few_units : {L : Type 0} (chip : Chip) (log : Log) (links : L) (calls place : ℕ) (call : Due) → Begins (state_of chip log links calls) place call → weight_of log.past < log.limit
+few_units : {L : Type 0} (chip : Chip) (log : Log) (links : L) (calls place : ℕ) (call : Due) → Begins (state_of chip log links calls) place call → IsLight log
 few_units chip log links calls place call begins =
-    leb-false log.limit (weight_of log.past) (neither (leb log.limit (weight_of log.past)) (leb 576460752303423488 (length log.past)) begins.open_.room).0
+    let below = open_light log begins.open_.room in omega (arith, below)
 
 -- The chip's counts have room.
 pub few_of : {L : Type 0} (chip : Chip) (log : Log) (links : L) (calls place : ℕ) (call : Due) → Begins (state_of chip log links calls) place call → Stands (starts_of chip) chip log.past

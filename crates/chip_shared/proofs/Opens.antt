@@ -1,13 +1,13 @@
 -- What an open state has room for, by its fields; and what a stop makes of the shared state.
-use Rattle.std.proofs.Common.{◌≡◌, ◌≤◌, ◌<◌, ◌+◌, ◌^◌, ℕ, Bool, true, false, ◌||◌, leb, ◌∷◌, length, None, Some, inl, inr, refl, sym, ap, ◌∙◌, subst, arith, Err}
-use Rattle.std.proofs.lemmas.Bool.{leb-false}
+use Rattle.std.proofs.Common.{◌≡◌, ◌<◌, ◌^◌, ℕ, ◌∷◌, length, None, Some, inl, inr, sym, ap, ◌∙◌, subst, arith, Err}
 use Rattle.board_bus.specs.declared.event.BusEvent.{BusEvent}
 use Rattle.chip_sheet.specs.declared.event.Entry.TheVariants.{Rest}
 use Rattle.chip_sheet.specs.declared.stop.ChipStop.{ChipStop}
 use Rattle.chip_core.specs.declared.chip.Chip.{Chip}
 use Rattle.chip_core.specs.Chip.{Stands, stop_kept, starts_of}
 use Rattle.chip_core.specs.Chip as core
-use Rattle.chip_hist.specs.Log.{Log, weight_of}
+use Rattle.chip_hist.specs.Log.{Log, IsLight}
+use Rattle.chip_hist.proofs.Weight.{open_light}
 use Rattle.link_trait.specs.Shown.{Shown}
 use Rattle.chip_shared.specs.State.{State, Keeps}
 use Rattle.chip_shared.specs.Sound.{Sound, state_of}
@@ -15,21 +15,16 @@ use Rattle.chip_shared.specs.Tied.{Tied, Ready}
 use Rattle.chip_shared.specs.Asking.{Asks, IsOpen}
 use Rattle.chip_shared.specs.declared.shared.StepEnd.TheVariants.{Stopped}
 
-neither : (a b : Bool) → (a || b) ≡ false → (a ≡ false) × (b ≡ false)
-neither true b h = cc
-neither false b h = (refl, h)
-
 -- Few entries, by the fields.
 pub short_of : {L : Type 0} (mid : State L) (chip : Chip) (log : Log) (links : L) (calls : ℕ) → state_of chip log links calls ≡ mid → length mid.log.past < 576460752303423488 → length log.past < 2 ^ 60
 short_of mid chip log links calls view few = subst (λ (s : State _). length s.log.past < 2 ^ 60) (sym view) (omega (arith, few))
 
 -- A history that is not full weighs less than it may.
-pub light_of : {L : Type 0} (old mid : State L) (chip : Chip) (log : Log) (links : L) (calls : ℕ) → state_of chip log links calls ≡ mid → Keeps old mid → IsOpen old → weight_of log.past ≤ log.limit + 64
+pub light_of : {L : Type 0} (old mid : State L) (chip : Chip) (log : Log) (links : L) (calls : ℕ) → state_of chip log links calls ≡ mid → Keeps old mid → IsOpen old → IsLight log
 light_of old mid chip log links calls view keeps open_ =
-    let weight = ap (λ (s : State _). weight_of s.log.past) view ∙ ap weight_of keeps.past in
-    let limit = ap (λ (s : State _). s.log.limit) view ∙ keeps.limit in
-    let less = leb-false old.log.limit (weight_of old.log.past) (neither (leb old.log.limit (weight_of old.log.past)) (leb 576460752303423488 (length old.log.past)) open_.room).0 in
-    omega (arith, weight, limit, less)
+    let below = open_light old.log open_.room in
+    let light : IsLight old.log = omega (arith, below) in
+    subst (λ (s : State _). IsLight s.log) (sym view) (rw (keeps.past, keeps.limit) light)
 
 -- A stop leaves the shared state sound.
 pub sound_stop : {L : Type 0} (shown : L → Shown) (chip new : Chip) (log : Log) (links : L) (calls : ℕ) → Sound shown chip log links calls → Stands (starts_of chip) new log.past → starts_of new ≡ starts_of chip

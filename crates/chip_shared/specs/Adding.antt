@@ -6,14 +6,14 @@ use Rattle.chip_sheet.specs.Past.{link_entry}
 use Rattle.chip_core.specs.declared.chip.Chip.{Chip}
 use Rattle.chip_core.specs.Chip.{Few, stop_kept, fits_here}
 use Rattle.chip_hist.specs.declared.limits.TheConstants.{MOST_EVENTS, MARGIN}
-use Rattle.chip_hist.specs.Log.{Log, weight_of, entry_data}
+use Rattle.chip_hist.specs.Log.{Log, IsLight, entry_data}
 use Rattle.chip_shared.specs.Entries.{entry_for}
 
 -- A history has room for an entry, and is not far over its limit.
 pub record RoomFor (log : Log) (entry : Entry) : Type 0 where
   pub event : 0 < log.spare_events
   pub bytes : length (entry_data entry) ≤ log.spare_bytes
-  pub light : weight_of log.past ≤ log.limit + MARGIN
+  pub light : IsLight log
   pub short : length log.past ≤ MOST_EVENTS + MARGIN
 
 -- What the link of socket n did may be added to a chip that keeps no stop, and to its history.

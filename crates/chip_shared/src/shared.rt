@@ -6,7 +6,7 @@ ghost use Rattle.chip_sheet.specs.Streams.{Starts};
 ghost use Rattle.chip_sheet.specs.Legal.{Legal};
 ghost use Rattle.chip_core.specs.Chip.{Stands, stop_kept, starts_of};
 ghost use Rattle.chip_hist.specs.declared.limits.TheConstants.{MOST_EVENTS, MARGIN};
-ghost use Rattle.chip_hist.specs.Log.{weight_of};
+ghost use Rattle.chip_hist.specs.Log.{IsLight};
 ghost use Rattle.link_trait.specs.Shown.{IsFresh};
 
 use chip_core::{Chip, laws};
@@ -146,7 +146,7 @@ impl<L: Links> Shared<L> {
     /// Adds a turn in which nothing happened. It takes no room.
     pub fn rest(&mut self)
         requires room { 0 < self.old.log.spare_events }
-        requires light { weight_of self.old.log.past ≤ self.old.log.limit + MARGIN }
+        requires light { IsLight self.old.log }
         requires short { length self.old.log.past ≤ MOST_EVENTS + MARGIN }
         ensures { self.new ≡ record self.old { log = record self.old.log { past = Rest ∷ self.old.log.past } } }
     {
