@@ -1,12 +1,12 @@
 -- The weight of a history, as the crates above know it: it begins at nothing, it never falls, and an entry adds so much at most. And
 -- what follows for a history that is not full, and for one that has room for so much.
-use Rattle.std.proofs.Common.{◌≡◌, ◌≤◌, ◌<◌, ◌+◌, ◌||◌, ℕ, Bool, true, false, [], ◌∷◌, leb, length, refl, arith}
+use Rattle.std.proofs.Common.{◌≡◌, ◌≤◌, ◌<◌, ◌+◌, ◌||◌, ℕ, Bool, true, false, [], ◌∷◌, leb, length, refl, ap, arith}
 use Rattle.std.proofs.lemmas.Bool.{leb-false}
 use Rattle.chip_sheet.specs.declared.event.Entry.{Entry}
 use Rattle.chip_sheet.specs.declared.event.Entry.TheVariants.{Bus, Link, Rest}
 use Rattle.chip_sheet.specs.Past.{Past}
 use Rattle.chip_hist.specs.declared.limits.TheConstants.{MOST_EVENTS}
-use Rattle.chip_hist.specs.Log.{Log, entry_weight, weight_of, most_weight, is_full, HasRoom}
+use Rattle.chip_hist.specs.Log.{Log, entry_weight, weight_of, most_weight, is_full, IsLightBy, HasRoom}
 
 pub weight_begins : weight_of [] ≡ 0
 unfolding weight_of
@@ -36,6 +36,14 @@ open_light log open_ = leb-false log.limit (weight_of log.past) (neither (leb lo
 
 pub open_short : (log : Log) → is_full log ≡ false → length log.past < MOST_EVENTS
 open_short log open_ = leb-false MOST_EVENTS (length log.past) (neither (leb log.limit (weight_of log.past)) (leb MOST_EVENTS (length log.past)) open_).1
+
+-- A step that began where it was not full goes past the limit by no more than the entry's data.
+pub light_after : (old new : Log) (entry : Entry) (units : ℕ) → is_full old ≡ false → most_weight entry ≤ units + 1 → new.past ≡ entry ∷ old.past → new.limit ≡ old.limit → IsLightBy units new
+light_after old new entry units open_ few is limit =
+    let below = open_light old open_ in
+    let rises = weight_rises entry old.past in
+    let weight = ap weight_of is in
+    omega (arith, below, rises, few, limit, weight)
 
 -- A past that began at nothing has all of its room.
 pub room_begins : (units limit : ℕ) → units ≤ limit → HasRoom [] units limit

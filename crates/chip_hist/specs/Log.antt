@@ -54,9 +54,13 @@ is_full_at limit past = nat_le limit (weight_of past) || nat_le MOST_EVENTS (len
 abbrev pub is_full : Log → Bool
 is_full log = is_full_at log.limit log.past
 
+-- A history went past its limit by so many units at most.
+abbrev pub IsLightBy : ℕ → Log → Type 0
+IsLightBy units log = weight_of log.past ≤ log.limit + units
+
 -- A history may be pushed to: it went past its limit no further than a step that began below it may.
 abbrev pub IsLight : Log → Type 0
-IsLight log = weight_of log.past ≤ log.limit + MARGIN
+IsLight log = IsLightBy MARGIN log
 
 -- Events that add so many units to the weight at most may come yet, and each of them adds one or more; neither the weight nor the number
 -- of events passes this limit.

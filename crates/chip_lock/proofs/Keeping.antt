@@ -9,8 +9,8 @@ use Rattle.chip_sheet.specs.declared.stop.ChipStop.{ChipStop}
 use Rattle.chip_sheet.specs.LinkAnswers.{LinkAnswer, NotYet, Failed, entry_by}
 use Rattle.chip_sheet.specs.LinkCalls.{due_at}
 use Rattle.chip_sheet.specs.Windows.{flight, most_read}
-use Rattle.chip_hist.specs.Log.{begun, entry_data, most_weight, weight_of}
-use Rattle.chip_hist.proofs.Weight.{open_light, open_short, weight_rises}
+use Rattle.chip_hist.specs.Log.{begun, entry_data, most_weight}
+use Rattle.chip_hist.proofs.Weight.{light_after, open_short}
 use Rattle.link_trait.specs.Calls.{Call}
 use Rattle.chip_shared.specs.State.{State, Keeps}
 use Rattle.chip_shared.specs.Asking.{Answered, IsOpen}
@@ -147,12 +147,7 @@ pub kept_added : {L : Type 0} (old new : State L) (before after : Option Over) (
     → IsDry after → (after ≡ None → 2 * live ≤ new.log.spare_events) → (after ≡ None → live * most_read ≤ new.log.spare_bytes) → IsKept new after live
 kept_added old new before after live count entry none kept some it dry turn_room data_room =
     let long : length new.log.past ≡ suc (length old.log.past) = ap length it.past in
-    let weight = ap weight_of it.past in
-    let rises = weight_rises entry old.log.past in
-    let light = open_light old.log it.before.room in
     let short = open_short old.log it.before.room in
-    let few = it.light in
-    let limit = it.limit in
     let most = kept.few in
     let room = kept.turn_room none in
     let events = it.events in
@@ -161,7 +156,7 @@ kept_added old new before after live count entry none kept some it dry turn_room
         stopped = λ s is. let both : None ≡ Some s = sym it.stopped ∙ is in cc;
         full = λ is. absurd (not_full after dry is);
       };
-      light = omega (arith, weight, rises, light, few, limit);
+      light = light_after old.log new.log entry (begun most_read) it.before.room it.light it.past it.limit;
       short = omega (arith, long, short, most);
       few = most;
       room = omega (arith, room, events, some);

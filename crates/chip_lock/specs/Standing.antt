@@ -4,7 +4,7 @@ use Rattle.board_bus.specs.declared.event.BusEvent.{BusEvent}
 use Rattle.chip_sheet.specs.declared.stop.ChipStop.{ChipStop}
 use Rattle.chip_sheet.specs.Past.{Past}
 use Rattle.chip_sheet.specs.Windows.{most_read}
-use Rattle.chip_hist.specs.Log.{is_full, weight_of}
+use Rattle.chip_hist.specs.Log.{begun, is_full, IsLightBy}
 use Rattle.chip_hist.specs.declared.limits.TheConstants.{MOST_EVENTS}
 use Rattle.chip_shared.specs.State.{State}
 use Rattle.chip_lock.specs.declared.over.Over.{Over}
@@ -35,7 +35,7 @@ pub record Leaves {L : Type 0} (state : State L) (cause : Option Over) : Type 0 
 -- turn before that one.
 pub record IsKept {L : Type 0} (state : State L) (cause : Option Over) (live : ℕ) : Type 0 where
   pub leaves : Leaves state cause
-  pub light : weight_of state.log.past ≤ state.log.limit + 46
+  pub light : IsLightBy (begun most_read) state.log
   pub short : length state.log.past + live ≤ MOST_EVENTS + 2
   pub few : live ≤ 2
   pub room : live ≤ state.log.spare_events
