@@ -24,9 +24,7 @@ use Rattle.chip_sheet.specs.LinkCalls.{fits}
 use Rattle.chip_sheet.specs.Stops.{Writes, block_access, where_it, first, stop_by, stop, command_facts, send_too_long, recv_past_end}
 use Rattle.chip_sheet.proofs.StopRows.{registers_block}
 use Rattle.chip_sheet.proofs.FitLaws.{free_open}
-
-is_less : (a b : ℕ) → a < b → ltb a b ≡ true
-is_less a b h = grind arith
+use Rattle.chip_sheet.proofs.SendLaws.{is_less}
 
 pub busy_stops : (starts : Starts) (past : Past) (e : BusEvent) (n : ℕ) → access past e ≡ Write (registers_of n) 0x01 0x20 → status past n ≡ Udp → 0 < flight starts past n → stop starts past e ≡ Some (SendBusy n)
 busy_stops starts past e n is udp some =

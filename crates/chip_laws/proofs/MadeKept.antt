@@ -24,7 +24,7 @@ use Rattle.chip_sheet.specs.LinkCalls.{outgoing_in, incoming_in, connection, kep
 use Rattle.chip_sheet.specs.Legal.{Legal}
 use Rattle.chip_sheet.proofs.LifeSteps.{is_fresh}
 use Rattle.chip_sheet.proofs.Within.{both_same}
-use Rattle.chip_sheet.proofs.MadeLaws.{drop_only, neither_call, made_fresh}
+use Rattle.chip_sheet.proofs.MadeLaws.{drop_only, neither_call, made_fresh, both_true}
 use Rattle.chip_sheet.proofs.LivesLaws.{old_stays}
 use Rattle.chip_sheet.proofs.Quiet.{asks_asked}
 use Rattle.chip_sheet.proofs.AccessCauses.{of_access, access_cause}
@@ -168,9 +168,6 @@ drop_event : (b : Bool) (what : LinkEntry) → cond b (happening what) because.N
 drop_event true Dropped h = (refl, refl)
 drop_event true what h = cc
 drop_event false what h = cc
-
-both_true : {a b : Bool} → a ≡ true → b ≡ true → (a && b) ≡ true
-both_true {a} {b} h k = ap (λ (x : Bool). x && b) h ∙ k
 
 drops : Cause → Bool
 drops because.Dropped = true

@@ -1,5 +1,5 @@
 -- The interrupts that a link event raises.
-use Rattle.std.proofs.Common.{◌≡◌, ℕ, ◌+◌, Bool, true, false, ◌||◌, cond, List, length, refl, ap, ◌∙◌}
+use Rattle.std.proofs.Common.{◌≡◌, ℕ, ◌+◌, true, ◌||◌, cond, List, length, refl, ap, ◌∙◌}
 use Rattle.chip_sheet.specs.declared.event.Addr.{Addr}
 use Rattle.chip_sheet.specs.declared.event.Entry.{Entry}
 use Rattle.chip_sheet.specs.declared.event.Entry.TheVariants.{Link}
@@ -19,6 +19,7 @@ use Rattle.chip_sheet.specs.Windows.{rx_free}
 use Rattle.chip_sheet.specs.Interrupts.{bit_value, raised_by_life, raised_by_bytes, interrupts_by}
 use Rattle.chip_steps.proofs.Going.{own_cause}
 use Rattle.chip_links.specs.Noting.{is_told, life_bits}
+use Rattle.chip_steps.proofs.BitSteps.{send_value, receive_value}
 
 -- What an entry raises as a byte, where this happens in this status.
 abbrev total : Starts → Past → ℕ → Entry → Cause → Status → ℕ
@@ -67,14 +68,6 @@ made_raises starts past n (Accepted from) h = total_is starts past n (Accepted f
 made_raises starts past n what h = cc
 
 -- By the bytes that it moves.
-send_value : (b : Bool) → 0 + (0 + (0 + (0 + (cond b 16 0 + 0)))) ≡ cond b 16 0
-send_value true = refl
-send_value false = refl
-
-receive_value : (b : Bool) → 0 + (0 + (cond b 4 0 + (0 + (0 + 0)))) ≡ cond b 4 0
-receive_value true = refl
-receive_value false = refl
-
 pub took_raises : (starts : Starts) (past : Past) (n count : ℕ) → let before = taken past n (lives past n) in
     interrupts_by starts past n (Link n (Took count)) ≡ cond (has_between before (before + count) (ends starts past n (lives past n))) 16 0
 took_raises starts past n count =

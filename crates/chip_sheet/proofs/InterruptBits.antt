@@ -1,27 +1,26 @@
 -- The interrupt registers as bits.
-use Rattle.std.proofs.Common.{◌≡◌, ◌<◌, ℕ, ◌+◌, ◌*◌, ◌/◌, ◌%◌, ◌^◌, zero, suc, Bool, true, false, not, ◌&&◌, ◌||◌, cond, eqb, refl, sym, ap, ◌∙◌, arith}
+use Rattle.std.proofs.Common.{◌≡◌, ◌<◌, ℕ, ◌+◌, ◌/◌, ◌%◌, ◌^◌, zero, suc, Bool, true, false, not, ◌&&◌, ◌||◌, cond, eqb, refl, sym, ap, ◌∙◌, arith}
 use lib.Bits.{bit_and}
 use Rattle.chip_sheet.specs.declared.socket.Interrupt.{Interrupt}
 use Rattle.chip_sheet.specs.declared.socket.Interrupt.TheVariants.{Connected, Disconnected, Received, TimedOut, SendOk}
 use Rattle.chip_sheet.specs.Past.{Past}
 use Rattle.chip_sheet.specs.Bits.{has_bit}
-use Rattle.chip_sheet.specs.Blocks.{sockets}
 use Rattle.chip_sheet.specs.Streams.{Starts}
 use Rattle.chip_sheet.specs.Interrupts.{bit_value, raised, interrupts, interrupt_register, mask, asks, sir_register, enabled_sockets, interrupt_low}
 use Rattle.chip_sheet.proofs.BitSums.{bit_sum, any_met, bit_sum_at, met_exactly}
 
-interrupt_at : ℕ → Interrupt
+-- The interrupts, each a bit.
+abbrev pub interrupt_at : ℕ → Interrupt
 interrupt_at zero = Connected
 interrupt_at (suc zero) = Disconnected
 interrupt_at (suc (suc zero)) = Received
 interrupt_at (suc (suc (suc zero))) = TimedOut
 interrupt_at (suc (suc (suc (suc more)))) = SendOk
 
-sum_five : (a b c d e : ℕ) → a + (b + (c + (d + (e + 0)))) ≡ 0 + a + b + c + d + e
+pub sum_five : (a b c d e : ℕ) → a + (b + (c + (d + (e + 0)))) ≡ 0 + a + b + c + d + e
 sum_five a b c d e = omega arith
 
-register_is : (starts : Starts) (past : Past) (n : ℕ) → interrupt_register starts past n ≡ bit_sum (λ i. raised starts past n (interrupt_at i)) 5
-unfolding interrupt_at
+pub register_is : (starts : Starts) (past : Past) (n : ℕ) → interrupt_register starts past n ≡ bit_sum (λ i. raised starts past n (interrupt_at i)) 5
 register_is starts past n =
     sum_five (cond (raised starts past n Connected) 1 0) (cond (raised starts past n Disconnected) 2 0) (cond (raised starts past n Received) 4 0)
     (cond (raised starts past n TimedOut) 8 0) (cond (raised starts past n SendOk) 16 0)
@@ -36,7 +35,6 @@ any_five false false false false true = refl
 any_five false false false false false = refl
 
 asks_is : (starts : Starts) (past : Past) (n : ℕ) → asks starts past n ≡ any_met (λ i. raised starts past n (interrupt_at i)) (mask past n) 5
-unfolding interrupt_at
 asks_is starts past n =
     let m = mask past n in
     any_five (has_bit m 1 && raised starts past n Connected) (has_bit m 2 && raised starts past n Disconnected) (has_bit m 4 && raised starts past n Received)
@@ -58,7 +56,6 @@ bit_of starts past n i below =
     (ap (λ (x : ℕ). x / 2 ^ i % 2) (register_is starts past n) ∙ bit_sum_at (λ j. raised starts past n (interrupt_at j)) 5 i below)
 
 pub register_bit : (starts : Starts) (past : Past) (n : ℕ) (bit : Interrupt) → has_bit (interrupt_register starts past n) (bit_value bit) ≡ raised starts past n bit
-unfolding interrupt_at
 register_bit starts past n Connected = bit_of starts past n 0 (omega arith)
 register_bit starts past n Disconnected = bit_of starts past n 1 (omega arith)
 register_bit starts past n Received = bit_of starts past n 2 (omega arith)

@@ -105,7 +105,7 @@ unborn_sent starts (entry ∷ past) n other h =
     let differs : lives past n ≡ other → ⊥ = λ (e : lives past n ≡ other). omega (arith, grow, h, e) in
     sent_other starts past entry n other differs ∙ unborn_sent starts past n other (omega (arith, grow, h))
 
-fresh_sends : (at : Status) → is_fresh at ≡ true → sends at ≡ false
+pub fresh_sends : (at : Status) → is_fresh at ≡ true → sends at ≡ false
 fresh_sends Established h = cc
 fresh_sends CloseWait h = cc
 fresh_sends Udp h = cc

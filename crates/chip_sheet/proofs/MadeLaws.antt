@@ -271,7 +271,7 @@ unfolding makes_it
 link_makes true what h = (refl, sym (happening_makes what) ∙ h)
 link_makes false what h = cc
 
-both_true : {a b : Bool} → a ≡ true → b ≡ true → (a && b) ≡ true
+pub both_true : {a b : Bool} → a ≡ true → b ≡ true → (a && b) ≡ true
 both_true {a} {b} h k = ap (λ (x : Bool). x && b) h ∙ k
 
 made_now : (past : Past) (entry : Entry) (n : ℕ) → makes_it (cause past n entry) ≡ true → is_made (entry ∷ past) n (lives past n) ≡ true

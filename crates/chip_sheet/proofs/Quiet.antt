@@ -2,34 +2,30 @@
 use Rattle.std.proofs.Common.{◌≡◌, ℕ, ◌-◌, ◌%◌, zero, suc, Bool, true, false, not, ◌&&◌, ◌||◌, cond, eqb, List, [], ◌∷◌, length, Option, None, Some, refl, sym, ap, ◌∙◌}
 use Rattle.std.specs.Option.{unwrap_or, option_or}
 use Rattle.std.proofs.lemmas.Bool.{cond-false, and_left, and_right, or_right}
-use Rattle.chip_sheet.specs.declared.event.Addr.{Addr}
 use Rattle.chip_sheet.specs.declared.event.Entry.{Entry}
 use Rattle.chip_sheet.specs.declared.event.Entry.TheVariants.{Bus, Link, Rest}
 use Rattle.chip_sheet.specs.declared.event.LinkEntry.{LinkEntry}
-use Rattle.chip_sheet.specs.declared.event.LinkEntry.TheVariants.{Linked, Accepted}
+use Rattle.chip_sheet.specs.declared.event.LinkEntry.TheVariants.{Linked}
 use Rattle.chip_sheet.specs.declared.phase.Access.{Access}
 use Rattle.chip_sheet.specs.declared.phase.Access.TheVariants.{NoAccess, Read, Write}
 use Rattle.chip_sheet.specs.declared.socket.Status.{Status}
-use Rattle.chip_sheet.specs.declared.socket.Status.TheVariants.{Closed, Listen, SynSent}
+use Rattle.chip_sheet.specs.declared.socket.Status.TheVariants.{Closed}
 use Rattle.chip_sheet.specs.declared.socket.Cause.{Cause}
 use Rattle.chip_sheet.specs.declared.socket.Cause.TheVariants as because
 use Rattle.chip_sheet.specs.declared.socket.Interrupt.{Interrupt}
-use Rattle.chip_sheet.specs.declared.socket.Due.{Due}
 use Rattle.chip_sheet.specs.Past.{Past}
 use Rattle.chip_sheet.specs.Frames.{access, access_of}
 use Rattle.chip_sheet.specs.Bits.{has_bit}
 use Rattle.chip_sheet.specs.Blocks.{registers_of, tx_buffer_of}
-use Rattle.chip_sheet.specs.Registers.{is_reset, last_written, written_by, written_after}
+use Rattle.chip_sheet.specs.Registers.{is_reset, last_written, written_by}
 use Rattle.chip_sheet.specs.Positions.{byte_of}
 use Rattle.chip_sheet.specs.Life.{Life, Facts, life, life_after, lives_on, next, facts_of, cause, cause_by, happening, status, lives, is_closed, asks_link, old_after, closing}
-use Rattle.chip_sheet.specs.Sizes.{tx_sizes, rx_sizes, tx_size, rx_size, resizes}
-use Rattle.chip_sheet.specs.Peers.{peer_byte, peer_written, destination, source_port}
+use Rattle.chip_sheet.specs.Sizes.{tx_sizes, rx_sizes, tx_size, resizes}
+use Rattle.chip_sheet.specs.Peers.{peer_byte, destination, source_port}
 use Rattle.chip_sheet.specs.Streams.{Starts, sent, sent_by, ends, ends_by, destinations, destinations_by, taken, supplied, got, released, released_by, is_made, makes, is_of, is_open, tx_base, rx_base, pointer_after, pointer_byte, byte_after, byte_in, tx_byte, last_byte}
-use Rattle.chip_sheet.specs.Windows.{flight, unread, rx_free, is_opened, opened_after}
-use Rattle.chip_sheet.specs.Sending.{Sending}
-use Rattle.chip_sheet.specs.Receiving.{Receiving}
+use Rattle.chip_sheet.specs.Windows.{flight, unread, is_opened, opened_after}
 use Rattle.chip_sheet.specs.Buffers.{sending, receiving}
-use Rattle.chip_sheet.specs.Interrupts.{raised_by_life, raised_by_bytes, raised_by, bits_by, interrupts, interrupts_by, clears, raised, bit_value}
+use Rattle.chip_sheet.specs.Interrupts.{raised_by_life, raised_by_bytes, raised_by, bits_by, interrupts, clears, raised, bit_value}
 use Rattle.chip_sheet.specs.LinkCalls.{keeps_address, keeps_port, kept_address, kept_port, outgoing, incoming, outgoing_of, incoming_of}
 use Rattle.chip_sheet.specs.Quiet.{writes_to, LeavesLife, Untouched, LeavesAll}
 use Rattle.chip_sheet.proofs.LifeSteps.{life_cases}
@@ -163,7 +159,7 @@ port_same : (past : Past) (entry : Entry) (n : ℕ) → cause past n entry ≡ b
 port_same past entry n h = ap (λ (why : Cause). cond (keeps_port why (status past n)) (source_port past n) (kept_port past n)) h
 
 -- No bit rises.
-raises_nothing : (starts : Starts) (past : Past) (entry : Entry) (n : ℕ) (bit : Interrupt) → cause past n entry ≡ because.Nothing → raised_by starts past n bit entry ≡ false
+pub raises_nothing : (starts : Starts) (past : Past) (entry : Entry) (n : ℕ) (bit : Interrupt) → cause past n entry ≡ because.Nothing → raised_by starts past n bit entry ≡ false
 raises_nothing starts past entry n bit h =
     ap (λ (why : Cause). raised_by_life why bit (status past n) || raised_by_bytes starts past n entry why bit (status past n)) h
 
@@ -231,7 +227,7 @@ peer_same past (Link m what) n at reset h = cond-false (eqb m n) _ (peer_byte pa
 peer_same past Rest n at reset h = refl
 
 -- The TX buffer.
-byte_kept : (past : Past) (made : Access) (n size at before : ℕ) → is_reset made ≡ false → resizes past tx_sizes made ≡ false → writes_to made (tx_buffer_of n) ≡ false
+pub byte_kept : (past : Past) (made : Access) (n size at before : ℕ) → is_reset made ≡ false → resizes past tx_sizes made ≡ false → writes_to made (tx_buffer_of n) ≡ false
     → byte_after past made n size at before ≡ before
 byte_kept past NoAccess n size at before on same h = refl
 byte_kept past (Read block addr) n size at before on same h = refl

@@ -54,7 +54,7 @@ two_rows a b h k = ap (λ (x : Option ChipStop). first (x ∷ b ∷ None ∷ [])
 not_less : (a b : ℕ) → b ≤ a → ltb a b ≡ false
 not_less a b h = grind arith
 
-is_less : (a b : ℕ) → a < b → ltb a b ≡ true
+pub is_less : (a b : ℕ) → a < b → ltb a b ≡ true
 is_less a b h = grind arith
 
 pub send_goes : (starts : Starts) (past : Past) (e : BusEvent) (n : ℕ) → access past e ≡ Write (registers_of n) 0x01 0x20 → sends (status past n) ≡ true

@@ -1,5 +1,5 @@
 -- While a socket is not closed, the sizes of the buffers stay.
-use Rattle.std.proofs.Common.{◌≡◌, ◌<◌, ℕ, ◌*◌, Bool, true, false, not, ◌&&◌, ◌||◌, cond, eqb, List, [], ◌∷◌, map, Option, None, Some, inl, inr, refl, sym, ap, ◌∙◌, subst, ◌⊎◌}
+use Rattle.std.proofs.Common.{◌≡◌, ◌<◌, ℕ, ◌*◌, Bool, true, false, not, ◌&&◌, ◌||◌, cond, eqb, List, [], ◌∷◌, map, Option, None, Some, inl, inr, refl, sym, ap, ◌∙◌, subst}
 use Rattle.std.specs.Option.{unwrap_or, option_or}
 use Rattle.std.proofs.lemmas.Bool.{cases_Bool, and_parts, eqb-true, agree_below_at, or_right, or_left, not_from_false, false_from_ne_true, false≢true}
 use Rattle.chip_sheet.specs.declared.phase.Access.{Access}
@@ -90,11 +90,11 @@ resizes_no past (Write bits addr v) h some = resizes_none past bits (block_of bi
 resizes_no past made h some = (refl, refl)
 
 -- An open socket is among the eight.
-abbrev is_listed : ℕ → List ℕ → Bool
+abbrev pub is_listed : ℕ → List ℕ → Bool
 is_listed m [] = false
 is_listed m (n ∷ more) = eqb m n || is_listed m more
 
-is_socket : (m : ℕ) → m < 8 → is_listed m sockets ≡ true
+pub is_socket : (m : ℕ) → m < 8 → is_listed m sockets ≡ true
 is_socket m below = agree_below_at (λ (i : ℕ). is_listed i sockets) (λ (i : ℕ). true) 8 m refl below
 
 one_open : (past : Past) (m n : ℕ) (listed more : Bool) → is_closed (status past m) ≡ false → (eqb m n || listed) ≡ true → (listed ≡ true → more ≡ true)

@@ -19,11 +19,11 @@ total starts past n entry why =
     let bit = λ (b : Interrupt). cond (raised_by_life why b at || raised_by_bytes starts past n entry why b at) (bit_value b) 0 in
     bit Connected + (bit Disconnected + (bit Received + (bit TimedOut + (bit SendOk + 0))))
 
-send_value : (b : Bool) → 0 + (0 + (0 + (0 + (cond b 16 0 + 0)))) ≡ cond b 16 0
+pub send_value : (b : Bool) → 0 + (0 + (0 + (0 + (cond b 16 0 + 0)))) ≡ cond b 16 0
 send_value true = refl
 send_value false = refl
 
-receive_value : (b : Bool) → 0 + (0 + (cond b 4 0 + (0 + (0 + 0)))) ≡ cond b 4 0
+pub receive_value : (b : Bool) → 0 + (0 + (cond b 4 0 + (0 + (0 + 0)))) ≡ cond b 4 0
 receive_value true = refl
 receive_value false = refl
 

@@ -1,5 +1,5 @@
 -- How a life goes on through an entry, and how one begins.
-use Rattle.std.proofs.Common.{◌≡◌, ℕ, ◌+◌, Bool, true, false, not, ◌&&◌, ◌||◌, cond, eqb, [], ◌∷◌, Option, inl, inr, refl, sym, ap, ◌∙◌, subst, arith}
+use Rattle.std.proofs.Common.{◌≡◌, ℕ, ◌+◌, Bool, true, false, not, ◌&&◌, ◌||◌, cond, eqb, List, [], ◌∷◌, Option, inl, inr, refl, sym, ap, ◌∙◌, subst, arith}
 use Rattle.std.specs.Option.{unwrap_or}
 use Rattle.std.proofs.lemmas.Bool.{cond-true, cond-false, and_left, and_right, and_from, or_left, eq-eqb, cases_Bool}
 use Rattle.chip_sheet.specs.declared.socket.Status.{Status}
@@ -35,7 +35,7 @@ pub record GoesOn (why : Cause) (at : Status) : Type 0 where
 pub goes_by : (why other : Cause) (at : Status) → why ≡ other → GoesOn other at → GoesOn why at
 goes_by why other at is on = subst (λ (w : Cause). GoesOn w at) (sym is) on
 
-not_true : (b : Bool) → not b ≡ true → b ≡ false
+pub not_true : (b : Bool) → not b ≡ true → b ≡ false
 not_true true h = sym h
 not_true false h = refl
 
@@ -215,3 +215,15 @@ making starts past n what legal makes_it =
           ∙ or_left (makes what && is_of past n n (lives past n)) (is_made past n (lives past n)) (and_from (makes what) (is_of past n n (lives past n)) makes_it (own_life past n));
       pointer = λ start byte before. links_pointer (cause past n (Link n what)) (status past n) start byte before why;
     }
+
+-- What is shown of a socket only where it is open.
+pub opened_list : (b c : Bool) (x y : List ℕ) → b ≡ c → x ≡ y → cond b x [] ≡ cond c y []
+opened_list b c x y e f = λ i. cond (e i) (f i) []
+
+pub no_number : (b : Bool) (x : ℕ) → x ≡ 0 → cond b x 0 ≡ 0
+no_number true x h = h
+no_number false x h = refl
+
+pub no_list : (b : Bool) (x : List ℕ) → x ≡ [] → cond b x [] ≡ []
+no_list true x h = h
+no_list false x h = refl

@@ -1,8 +1,8 @@
 -- The lists and counts of a life that an entry leaves, and those of a life that begins.
-use Rattle.std.proofs.Common.{◌≡◌, ◌<◌, ℕ, ◌+◌, zero, suc, Bool, true, false, not, ◌&&◌, cond, eqb, List, [], ◌∷◌, ◌++◌, length, append-nil, inl, inr, refl, sym, ap, ◌∙◌, arith}
+use Rattle.std.proofs.Common.{◌≡◌, ◌<◌, ℕ, ◌+◌, zero, suc, Bool, true, false, not, ◌&&◌, cond, eqb, List, [], ◌∷◌, ◌++◌, length, append-nil, inl, inr, refl, ap, ◌∙◌, arith}
 use Rattle.std.proofs.lemmas.Bool.{cond-false, and_left, and_right, ne_eqb}
 use Rattle.chip_sheet.specs.declared.socket.Status.{Status}
-use Rattle.chip_sheet.specs.declared.socket.Status.TheVariants.{Established, CloseWait, Udp}
+use Rattle.chip_sheet.specs.declared.socket.Status.TheVariants.{Established, Udp}
 use Rattle.chip_sheet.specs.declared.socket.Cause.{Cause}
 use Rattle.chip_sheet.specs.declared.socket.Cause.TheVariants as because
 use Rattle.chip_sheet.specs.declared.event.Entry.{Entry}
@@ -13,13 +13,10 @@ use Rattle.chip_sheet.specs.Past.{Past}
 use Rattle.chip_sheet.specs.Life.{life, cause, happening, status, lives}
 use Rattle.chip_sheet.specs.Sending.{bytes_from}
 use Rattle.chip_sheet.specs.Streams.{Starts, sent, sent_by, ends, ends_by, sends, takes_send, taken, taken_by, is_open, put_by, free_behind, got, released, released_by}
-use Rattle.chip_sheet.proofs.LifeSteps.{is_fresh, was_young, lives_grow}
+use Rattle.chip_sheet.proofs.LifeSteps.{is_fresh, was_young, lives_grow, fresh_sends}
 use Rattle.chip_sheet.proofs.Within.{never_asks}
 use Rattle.chip_steps.specs.Steps.{leaves_sent, leaves_got}
-
-not_true : (b : Bool) → not b ≡ true → b ≡ false
-not_true true h = sym h
-not_true false h = refl
+use Rattle.chip_steps.proofs.Going.{not_true}
 
 sent_left : (starts : Starts) (past : Past) (n l : ℕ) (why : Cause) (before : List ℕ) → leaves_sent why (status past n) ≡ true → sent_by starts past n l why before ≡ before
 sent_left starts past n l because.Send before h =
@@ -111,12 +108,6 @@ unborn_ends starts (entry ∷ past) n l h =
 pub begun_ends : (starts : Starts) (past : Past) (entry : Entry) (n : ℕ) → ends starts (entry ∷ past) n (lives past n + 1) ≡ []
 begun_ends starts past entry n =
     ends_other starts past n (lives past n + 1) (cause past n entry) (ends starts past n (lives past n + 1)) (λ e. omega (arith, e)) ∙ unborn_ends starts past n (lives past n + 1) (omega arith)
-
-fresh_sends : (at : Status) → is_fresh at ≡ true → sends at ≡ false
-fresh_sends Established h = cc
-fresh_sends CloseWait h = cc
-fresh_sends Udp h = cc
-fresh_sends at h = refl
 
 pub ends_by_fresh : (starts : Starts) (past : Past) (n l : ℕ) (why : Cause) (before : List ℕ) → is_fresh (status past n) ≡ true → ends_by starts past n l why before ≡ before
 ends_by_fresh starts past n l because.Send before h =

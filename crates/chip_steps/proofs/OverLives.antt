@@ -1,6 +1,6 @@
 -- Counts over all lives of a socket grow by no more than one entry can add.
-use Rattle.std.proofs.Common.{◌≡◌, ◌≤◌, ◌<◌, ◌↔◌, ℕ, ◌+◌, ◌*◌, min, zero, suc, Bool, true, false, ◌&&◌, ◌||◌, cond, eqb, leb, List, [], ◌∷◌, ◌++◌, map, length, length-append, inl, inr, refl, sym, ap, ◌∙◌, subst, arith, ◌⊎◌}
-use Rattle.std.proofs.lemmas.Bool.{cases_Bool, and_parts, or_cases, leb-true, eqb-true, eqb-false, eq-eqb, cond-true, cond-false, cond_both, agree_below_at}
+use Rattle.std.proofs.Common.{◌≡◌, ◌≤◌, ◌<◌, ◌↔◌, ℕ, ◌+◌, ◌*◌, min, zero, suc, Bool, true, false, ◌||◌, cond, eqb, leb, List, [], ◌∷◌, ◌++◌, map, length, length-append, inl, inr, refl, sym, ap, ◌∙◌, subst, arith, ◌⊎◌}
+use Rattle.std.proofs.lemmas.Bool.{cases_Bool, and_parts, or_cases, leb-true, eqb-true, eqb-false, eq-eqb, cond-true, cond-false, cond_both}
 use Rattle.chip_sheet.specs.declared.event.Addr.{Addr}
 use Rattle.chip_sheet.specs.declared.event.Entry.{Entry}
 use Rattle.chip_sheet.specs.declared.event.Entry.TheVariants.{Bus, Link, Rest}
@@ -30,18 +30,11 @@ use Rattle.chip_sheet.proofs.SentLaws.{sent_other}
 use Rattle.chip_sheet.proofs.LifeSteps.{got_other}
 use Rattle.chip_sheet.proofs.Within.{send_within, taken_within}
 use Rattle.chip_sheet.proofs.FitLaws.{begun_sent, begun_got}
+use Rattle.chip_sheet.proofs.MadeLaws.{both_true}
+use Rattle.chip_sheet.proofs.SizeLaws.{is_listed, is_socket}
 
 -- A buffer has at most 16 KB.
-is_listed : ℕ → List ℕ → Bool
-is_listed m [] = false
-is_listed m (n ∷ more) = eqb m n || is_listed m more
-
-is_socket : (m : ℕ) → m < 8 → is_listed m sockets ≡ true
-unfolding is_listed
-is_socket m below = agree_below_at (λ (i : ℕ). is_listed i sockets) (λ (i : ℕ). true) 8 m refl below
-
 each_size : (f : ℕ → ℕ) (ns : List ℕ) (n : ℕ) → is_listed n ns ≡ true → all_sizes (map f ns) ≡ true → is_size (f n) ≡ true
-unfolding is_listed
 each_size f [] n h all = cc
 each_size f (m ∷ more) n h all =
     let parts = and_parts (is_size (f m)) (all_sizes (map f more)) all in
@@ -242,9 +235,6 @@ by_bytes starts past n entry why h = cc
 
 or_second : (a b : Bool) → a ≡ false → (a || b) ≡ b
 or_second a b h = ap (λ (x : Bool). x || b) h
-
-both_true : {a b : Bool} → a ≡ true → b ≡ true → (a && b) ≡ true
-both_true {a} {b} h k = ap (λ (x : Bool). x && b) h ∙ k
 
 pub sendok : (starts : Starts) (past : Past) (n : ℕ) (entry : Entry) → (raised_by starts past n SendOk entry ≡ true) ↔ (SendsNone starts past n (cause past n entry) ⊎ PassesEnd starts past n (cause past n entry))
 sendok starts past n entry =

@@ -30,13 +30,10 @@ use Rattle.chip_sheet.proofs.Within.{released_within}
 use Rattle.chip_sheet.proofs.SizeLaws.{size_kept}
 use Rattle.chip_sheet.proofs.Quiet.{no_reset, leaves_life}
 use Rattle.chip_steps.specs.Steps.{writes_command_alone, leaves_got}
-use Rattle.chip_steps.proofs.Going.{GoesOn, got_goes, goes_by, opened_same, lives_same, lives_more, status_next, rx_base_same, pointer_begins, not_made, opened_open, open_not_closed, own_cause, own_life, making}
+use Rattle.chip_steps.proofs.Going.{GoesOn, got_goes, goes_by, opened_same, lives_same, lives_more, status_next, rx_base_same, pointer_begins, not_made, opened_open, open_not_closed, own_cause, own_life, making, opened_list, no_number, no_list}
 use Rattle.chip_sheet.proofs.Quiet.{not_written}
 use Rattle.chip_steps.proofs.Writing.{alone, pointer_kept, pointer_written, resizing_rx}
 use Rattle.chip_steps.proofs.Lists.{got_same, released_same, got_stays}
-
-opened_list : (b c : Bool) (x y : List ℕ) → b ≡ c → x ≡ y → cond b x [] ≡ cond c y []
-opened_list b c x y e f = λ i. cond (e i) (f i) []
 
 opened_number : (b c : Bool) (x y : ℕ) → b ≡ c → x ≡ y → cond b x 0 ≡ cond c y 0
 opened_number b c x y e f = λ i. cond (e i) (f i) 0
@@ -280,14 +277,6 @@ gets_datagram starts past n from body legal live =
     (ap is_open (status_next at (cause past n (Link n what)) ∙ ap (λ (w : Cause). next at.status w (facts_of w at)) why ∙ datagram_next at.status count (facts_of (because.Datagram count) at)) ∙ live)
 
 -- A life begins.
-no_number : (b : Bool) (x : ℕ) → x ≡ 0 → cond b x 0 ≡ 0
-no_number true x h = h
-no_number false x h = refl
-
-no_list : (b : Bool) (x : List ℕ) → x ≡ [] → cond b x [] ≡ []
-no_list true x h = h
-no_list false x h = refl
-
 none_there : (x : List ℕ) (r : ℕ) → x ≡ [] → length x - r ≡ 0
 none_there x r h = let e = ap length h in omega (arith, e)
 

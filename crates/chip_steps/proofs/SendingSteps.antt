@@ -29,13 +29,10 @@ use Rattle.chip_sheet.proofs.Within.{taken_within}
 use Rattle.chip_sheet.proofs.SizeLaws.{size_kept}
 use Rattle.chip_sheet.proofs.Quiet.{no_reset, leaves_life}
 use Rattle.chip_steps.specs.Steps.{writes_command_alone, leaves_sent}
-use Rattle.chip_steps.proofs.Going.{GoesOn, sent_goes, goes_by, opened_same, lives_same, lives_more, status_next, tx_base_same, pointer_begins, not_made, opened_open, open_not_closed, own_cause, own_life, making}
+use Rattle.chip_steps.proofs.Going.{GoesOn, sent_goes, goes_by, opened_same, lives_same, lives_more, status_next, tx_base_same, pointer_begins, not_made, opened_open, open_not_closed, own_cause, own_life, making, opened_list, no_number, no_list}
 use Rattle.chip_sheet.proofs.Quiet.{not_written}
 use Rattle.chip_steps.proofs.Writing.{alone, tx_kept, tx_cleared, pointer_kept, pointer_written, registers_alone, resizing_tx, filling}
 use Rattle.chip_steps.proofs.Lists.{sent_same, ends_same, taken_same, taken_stays, begun_ends, fresh_ends, ends_by_fresh, bytes_length}
-
-opened_list : (b c : Bool) (x y : List ℕ) → b ≡ c → x ≡ y → cond b x [] ≡ cond c y []
-opened_list b c x y e f = λ i. cond (e i) (f i) []
 
 opened_number : (b c : Bool) (x y : ℕ) → b ≡ c → x ≡ y → cond b x 0 ≡ cond c y 0
 opened_number b c x y e f = λ i. cond (e i) (f i) 0
@@ -288,14 +285,6 @@ took starts past n count =
     })
 
 -- A life begins.
-no_number : (b : Bool) (x : ℕ) → x ≡ 0 → cond b x 0 ≡ 0
-no_number true x h = h
-no_number false x h = refl
-
-no_list : (b : Bool) (x : List ℕ) → x ≡ [] → cond b x [] ≡ []
-no_list true x h = h
-no_list false x h = refl
-
 none_flies : (x : List ℕ) (t : ℕ) → x ≡ [] → length x - t ≡ 0
 none_flies x t h = let e = ap length h in omega (arith, e)
 

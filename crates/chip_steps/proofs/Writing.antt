@@ -22,6 +22,7 @@ use Rattle.chip_sheet.proofs.Within.{both_same}
 use Rattle.chip_sheet.proofs.ResetRestores.{tx_block}
 use Rattle.chip_steps.specs.Steps.{writes_command_alone}
 use Rattle.chip_steps.proofs.Going.{GoesOn, pointer_goes}
+use Rattle.chip_sheet.proofs.Quiet.{byte_kept}
 
 -- An access that writes no more than a command.
 alone_reset : (made : Access) (n : ℕ) → writes_command_alone made n ≡ true → is_reset made ≡ false
@@ -81,16 +82,6 @@ alone past entry n h = record {
 }
 
 -- The bytes of the TX buffer stay where nothing writes to them.
-byte_kept : (past : Past) (made : Access) (n size at before : ℕ) → is_reset made ≡ false → resizes past tx_sizes made ≡ false → writes_to made (tx_buffer_of n) ≡ false
-    → byte_after past made n size at before ≡ before
-byte_kept past NoAccess n size at before on same h = refl
-byte_kept past (Read block addr) n size at before on same h = refl
-byte_kept past (Write block addr v) n size at before on same h =
-    let here = eqb (addr % size) (at % size) in
-    ap (λ (b : Bool). cond (b || resizes past tx_sizes (Write block addr v)) 0 (cond (eqb block (tx_buffer_of n) && here) v before)) on
-    ∙ ap (λ (b : Bool). cond b 0 (cond (eqb block (tx_buffer_of n) && here) v before)) same
-    ∙ ap (λ (b : Bool). cond (b && here) v before) h
-
 byte_in_kept : (past : Past) (entry : Entry) (n size at : ℕ) → is_reset (access_of past entry) ≡ false → resizes past tx_sizes (access_of past entry) ≡ false
     → writes_to (access_of past entry) (tx_buffer_of n) ≡ false → byte_in (entry ∷ past) n size at ≡ byte_in past n size at
 byte_in_kept past entry n zero at on same h = refl

@@ -1,5 +1,5 @@
 -- The table of the common registers, as the code has it.
-use Rattle.std.proofs.Common.{◌≡◌, ◌≢◌, ◌*◌, ◌/◌, ℕ, ◌+◌, ◌≤◌, Bool, true, false, ◌&&◌, eqb, leb, ltb, if◌then◌else◌, List, [], ◌∷◌, length, get_or, Some, None, refl, sym, ap, ◌∙◌, arith, inl, inr}
+use Rattle.std.proofs.Common.{◌≡◌, ◌≢◌, ◌*◌, ◌/◌, ℕ, ◌+◌, ◌≤◌, Bool, true, false, ◌&&◌, eqb, leb, if◌then◌else◌, List, [], ◌∷◌, length, get_or, Some, None, refl, sym, ap, ◌∙◌, arith, inl, inr}
 use Rattle.std.proofs.lemmas.Bool.{and_parts, cases_lt, cond-true, cond-false, eq-eqb, ne_eqb}
 use Rattle.std.proofs.lemmas.Bool.Decides.{nat_tests}
 use Rattle.std.proofs.lemmas.List.{get_or_past}
@@ -7,15 +7,12 @@ use Rattle.chip_sheet.specs.CommonBlock.{Rule, Stored, ReadOnly, LinkUp, Registe
 use Rattle.chip_sheet.specs.Registers.{common_register, shown}
 use Rattle.common_regs.specs.declared.registers.TheConstants.{RESET}
 use Rattle.common_regs.specs.Places.{is_stored, kept_of}
-use Rattle.chip_sheet.proofs.Tables.{table, same_at}
+use Rattle.chip_sheet.proofs.Tables.{table, same_at, outside}
 
 -- each register ends below n
 abbrev end_below : List Register → ℕ → Bool
 end_below [] n = true
 end_below (r ∷ rs) n = leb (r.place + length r.reset) n && end_below rs n
-
-outside : (first end addr n : ℕ) → leb end n ≡ true → n ≤ addr → (leb first addr && ltb addr end) ≡ false
-outside first end addr n h above = grind (arith, nat_tests)
 
 -- behind the last register all is reserved
 past_the_registers : (rs : List Register) (n addr : ℕ) → end_below rs n ≡ true → n ≤ addr → place_in rs addr ≡ reserved

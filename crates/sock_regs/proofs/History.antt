@@ -13,7 +13,6 @@ use Rattle.chip_sheet.specs.declared.event.LinkEntry.{LinkEntry}
 use Rattle.chip_sheet.specs.declared.event.LinkEntry.TheVariants.{Accepted}
 use Rattle.chip_sheet.specs.declared.phase.Access.{Access}
 use Rattle.chip_sheet.specs.declared.phase.Access.TheVariants.{NoAccess, Read, Write}
-use Rattle.chip_sheet.specs.declared.socket.Cause.{Cause}
 use Rattle.chip_sheet.specs.declared.socket.Cause.TheVariants as because
 use Rattle.chip_sheet.specs.declared.socket.Interrupt.{Interrupt}
 use Rattle.chip_sheet.specs.declared.socket.Interrupt.TheVariants.{Connected, Disconnected, Received, TimedOut, SendOk}
@@ -24,25 +23,18 @@ use Rattle.chip_sheet.specs.Bits.{has_bit}
 use Rattle.chip_sheet.specs.Blocks.{registers_of}
 use Rattle.chip_sheet.specs.Registers.{is_reset, last_written, written_by, written_after}
 use Rattle.chip_sheet.specs.Quiet.{writes_to}
-use Rattle.chip_sheet.specs.Life.{cause, cause_by, status, mode}
+use Rattle.chip_sheet.specs.Life.{cause, cause_by, mode}
 use Rattle.chip_sheet.specs.Sizes.{kilobytes, tx_sizes, rx_sizes}
 use Rattle.chip_sheet.specs.Peers.{peer_byte, peer_written, accepted_byte, destination, source_port}
 use Rattle.chip_sheet.specs.Streams.{Starts}
-use Rattle.chip_sheet.specs.Interrupts.{bit_value, raised, raised_by, raised_by_life, raised_by_bytes, interrupts_by, interrupt_register, clears, mask}
+use Rattle.chip_sheet.specs.Interrupts.{bit_value, raised, raised_by, interrupts_by, interrupt_register, clears, mask}
 use Rattle.chip_sheet.specs.SocketBlock.{Shows, Written, Constant, Peer, Raised, socket_place, socket_register, shown_by}
 use Rattle.chip_sheet.proofs.BitSums.{bit_sum}
-use Rattle.chip_sheet.proofs.Quiet.{leaves_life, not_written}
+use Rattle.chip_sheet.proofs.Quiet.{leaves_life, not_written, raises_nothing}
 use Rattle.sock_regs.specs.Places.{is_kept, kept, with_bits, with_peer, accepted_by, reset_value, after_write, after_raise, after_peer, port_in, address_in}
 use Rattle.sock_regs.proofs.BitBytes.{or_sum, or_none, cleared_sum, same_sum}
 use Rattle.sock_regs.proofs.PlaceTable.{is_raised, raised_is, raised_reset}
-
--- The interrupts, each a bit.
-abbrev interrupt_at : ℕ → Interrupt
-interrupt_at zero = Connected
-interrupt_at (suc zero) = Disconnected
-interrupt_at (suc (suc zero)) = Received
-interrupt_at (suc (suc (suc zero))) = TimedOut
-interrupt_at (suc (suc (suc (suc more)))) = SendOk
+use Rattle.chip_sheet.proofs.InterruptBits.{interrupt_at, sum_five, register_is}
 
 value_at : (i : ℕ) → i < 5 → bit_value (interrupt_at i) ≡ 2 ^ i
 value_at zero below = refl
@@ -51,14 +43,6 @@ value_at (suc (suc zero)) below = refl
 value_at (suc (suc (suc zero))) below = refl
 value_at (suc (suc (suc (suc zero)))) below = refl
 value_at (suc (suc (suc (suc (suc more))))) below = absurd (omega arith)
-
-sum_five : (a b c d e : ℕ) → a + (b + (c + (d + (e + 0)))) ≡ 0 + a + b + c + d + e
-sum_five a b c d e = omega arith
-
-register_sum : (starts : Starts) (past : Past) (n : ℕ) → interrupt_register starts past n ≡ bit_sum (λ i. raised starts past n (interrupt_at i)) 5
-register_sum starts past n =
-    sum_five (cond (raised starts past n Connected) 1 0) (cond (raised starts past n Disconnected) 2 0) (cond (raised starts past n Received) 4 0)
-    (cond (raised starts past n TimedOut) 8 0) (cond (raised starts past n SendOk) 16 0)
 
 raised_sum : (starts : Starts) (past : Past) (n : ℕ) (entry : Entry) → interrupts_by starts past n entry ≡ bit_sum (λ i. raised_by starts past n (interrupt_at i) entry) 5
 raised_sum starts past n entry =
@@ -76,16 +60,12 @@ not_cleared false false false h = refl
 raises : (starts : Starts) (past : Past) (n : ℕ) (entry : Entry) → ((bit : Interrupt) → clears (access_of past entry) n bit ≡ false)
     → bit_or (interrupt_register starts past n) (interrupts_by starts past n entry) ≡ interrupt_register starts (entry ∷ past) n
 raises starts past n entry none =
-    ap (λ (x : ℕ). bit_or x (interrupts_by starts past n entry)) (register_sum starts past n)
+    ap (λ (x : ℕ). bit_or x (interrupts_by starts past n entry)) (register_is starts past n)
     ∙ ap (bit_or (bit_sum (λ i. raised starts past n (interrupt_at i)) 5)) (raised_sum starts past n entry)
     ∙ or_sum (λ i. raised starts past n (interrupt_at i)) (λ i. raised_by starts past n (interrupt_at i) entry) 5
     ∙ same_sum _ (λ i. raised starts (entry ∷ past) n (interrupt_at i)) 5
     (λ i below. not_cleared (clears (access_of past entry) n (interrupt_at i)) (raised_by starts past n (interrupt_at i) entry) (raised starts past n (interrupt_at i)) (none (interrupt_at i)))
-    ∙ sym (register_sum starts (entry ∷ past) n)
-
-raises_nothing : (starts : Starts) (past : Past) (entry : Entry) (n : ℕ) (bit : Interrupt) → cause past n entry ≡ because.Nothing → raised_by starts past n bit entry ≡ false
-raises_nothing starts past entry n bit h =
-    ap (λ (why : Cause). raised_by_life why bit (status past n) || raised_by_bytes starts past n entry why bit (status past n)) h
+    ∙ sym (register_is starts (entry ∷ past) n)
 
 only_cleared : (k c b r : Bool) → c ≡ k → b ≡ false → (not k && r) ≡ (not c && (b || r))
 only_cleared k c true r same h = absurd (false≢true (sym h))
@@ -98,12 +78,12 @@ takes_away : (starts : Starts) (past : Past) (n : ℕ) (entry : Entry) (v : ℕ)
 takes_away starts past n entry v nothing those =
     ap (bit_or (interrupt_register starts past n - bit_and (interrupt_register starts past n) v)) (leaves_life starts past entry n nothing).bits
     ∙ or_none _
-    ∙ ap (λ (x : ℕ). x - bit_and x v) (register_sum starts past n)
+    ∙ ap (λ (x : ℕ). x - bit_and x v) (register_is starts past n)
     ∙ cleared_sum (λ i. raised starts past n (interrupt_at i)) v 5
     ∙ same_sum _ (λ i. raised starts (entry ∷ past) n (interrupt_at i)) 5
     (λ i below. only_cleared (has_bit v (2 ^ i)) (clears (access_of past entry) n (interrupt_at i)) (raised_by starts past n (interrupt_at i) entry) (raised starts past n (interrupt_at i))
     (those (interrupt_at i) ∙ ap (has_bit v) (value_at i below)) (raises_nothing starts past entry n (interrupt_at i) nothing))
-    ∙ sym (register_sum starts (entry ∷ past) n)
+    ∙ sym (register_is starts (entry ∷ past) n)
 
 all_cleared : (k b r : Bool) → k ≡ true → (not k && (b || r)) ≡ false
 all_cleared true b r h = refl
@@ -113,7 +93,7 @@ nothing_raised : (starts : Starts) (past : Past) (n : ℕ) (entry : Entry) → (
 nothing_raised starts past n entry those =
     same_sum (λ i. false) (λ i. raised starts (entry ∷ past) n (interrupt_at i)) 5
     (λ i below. sym (all_cleared (clears (access_of past entry) n (interrupt_at i)) (raised_by starts past n (interrupt_at i) entry) (raised starts past n (interrupt_at i)) (those (interrupt_at i))))
-    ∙ sym (register_sum starts (entry ∷ past) n)
+    ∙ sym (register_is starts (entry ∷ past) n)
 
 -- A write to the block of socket n.
 no_reset : (n addr v : ℕ) → is_reset (Write (registers_of n) addr v) ≡ false

@@ -1,5 +1,5 @@
 -- The table of a socket's registers, as the code has it.
-use Rattle.std.proofs.Common.{◌≡◌, ◌-◌, ◌%◌, ◌/◌, ℕ, ◌+◌, ◌≤◌, ◌<◌, Bool, true, false, ◌&&◌, eqb, leb, ltb, cond, List, [], ◌∷◌, length, get_or, refl, sym, ap, ◌∙◌, arith, inl, inr}
+use Rattle.std.proofs.Common.{◌≡◌, ◌-◌, ◌%◌, ◌/◌, ℕ, ◌+◌, ◌≤◌, ◌<◌, Bool, true, false, ◌&&◌, eqb, leb, cond, List, [], ◌∷◌, length, get_or, refl, sym, ap, ◌∙◌, arith, inl, inr}
 use lib.Bits.{bit_and}
 use Rattle.std.specs.Prelude.{bit_or}
 use Rattle.std.proofs.lemmas.Bool.{and_parts, cases_lt, cond-false, eqb-true, ne_eqb}
@@ -9,15 +9,12 @@ use Rattle.chip_sheet.specs.declared.event.Addr.{Addr}
 use Rattle.chip_sheet.specs.SocketBlock.{Shows, Raised, Register, Place, reserved, socket_registers, place_in, socket_place}
 use Rattle.sock_regs.specs.declared.registers.TheConstants.{RESET}
 use Rattle.sock_regs.specs.Places.{is_kept, kept, with_bits, with_peer, is_here, is_stored}
-use Rattle.chip_sheet.proofs.Tables.{table, same_at}
+use Rattle.chip_sheet.proofs.Tables.{table, same_at, outside}
 
 -- each register ends below n
 abbrev end_below : List Register → ℕ → Bool
 end_below [] n = true
 end_below (r ∷ rs) n = leb (r.place + length r.reset) n && end_below rs n
-
-outside : (first end addr n : ℕ) → leb end n ≡ true → n ≤ addr → (leb first addr && ltb addr end) ≡ false
-outside first end addr n h above = grind (arith, nat_tests)
 
 -- behind the last register all is reserved
 past_the_registers : (rs : List Register) (n addr : ℕ) → end_below rs n ≡ true → n ≤ addr → place_in rs addr ≡ reserved
