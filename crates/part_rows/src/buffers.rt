@@ -8,7 +8,7 @@ use std::process::Abort;
 use std::test::Fail;
 
 // One call on a socket, with what comes of it.
-#[derive(Clone, Copy, Debug)]
+#[derive(Clone, Copy)]
 enum Step {
     Begin(u16, u16),
     Empty,
@@ -37,96 +37,84 @@ fn pair_at(rings: &Rings, sn: u8, addr: u16) -> u16
     u16::from(rings.pointer(sn, addr)) * 256 + u16::from(rings.pointer(sn, addr + 1))
 }
 
-// Makes one call of the sending side, and answers whether it is one.
-fn take_sending(rt: &impl Abort, rings: &mut Rings, sn: u8, step: Step) -> bool
+// Makes one call of the sending side, and answers whether it came out as wanted; none where it is no such call.
+fn take_sending(rings: &mut Rings, sn: u8, step: Step) -> Option<bool>
     requires { sn < 8 }
 {
-    match step {
-        Step::Write(addr, v) => assert_eq!(rt; rings.tx_write(sn, addr, v), Ok(()), "{step:?}"),
+    Some(match step {
+        Step::Write(addr, v) => rings.tx_write(sn, addr, v) == Ok(()),
         Step::Overwrites(addr, at) => {
-            assert_eq!(rt;
-                rings.tx_write(sn, addr, 0xEE),
-                Err(ChipStop::OverwriteInFlight { sn, at }),
-                "{step:?}"
-            )
+            rings.tx_write(sn, addr, 0xEE) == Err(ChipStop::OverwriteInFlight { sn, at })
         }
-        Step::Shows(addr, v) => {
-            assert!(rt; addr < 0xFF, "{step:?}");
-            assert_eq!(rt; pair_at(rings, sn, addr), v, "{step:?}");
-        }
-        Step::Read(addr, v) => assert_eq!(rt; rings.tx_read(sn, addr), v, "{step:?}"),
-        Step::Commit(len) => assert_eq!(rt; rings.commit(sn), Ok(len), "{step:?}"),
+        Step::Shows(addr, v) => addr < 0xFF && pair_at(rings, sn, addr) == v,
+        Step::Read(addr, v) => rings.tx_read(sn, addr) == v,
+        Step::Commit(len) => rings.commit(sn) == Ok(len),
         Step::TooLong(len, free) => {
-            assert_eq!(rt;
-                rings.commit(sn),
-                Err(ChipStop::SendTooLong { sn, len, free }),
-                "{step:?}"
-            )
+            rings.commit(sn) == Err(ChipStop::SendTooLong { sn, len, free })
         }
-        Step::Offer(first, second) => {
-            let (one, two) = rings.offer(sn);
-            assert_eq!(rt; one, first, "{step:?}");
-            assert_eq!(rt; two, second, "{step:?}");
-        }
-        Step::Taken(k, passed) => {
-            assert!(rt; k <= rings.flight(sn), "{step:?}");
-            assert_eq!(rt; rings.taken(sn, k), passed, "{step:?}");
-        }
-        _ => return false,
-    }
-    true
+        Step::Offer(first, second) => rings.offer(sn) == (first, second),
+        Step::Taken(k, passed) => k <= rings.flight(sn) && rings.taken(sn, k) == passed,
+        _ => return None,
+    })
 }
 
-// Makes one call of the receiving side, or of both.
-fn take_receiving(rt: &impl Abort, rings: &mut Rings, sn: u8, step: Step)
+// Makes one call of the receiving side, or of both, and answers whether it came out as wanted.
+fn take_receiving(rings: &mut Rings, sn: u8, step: Step) -> bool
     requires { sn < 8 }
 {
     match step {
         Step::Begin(tx, rx) => rings.begin(sn, tx, rx),
         Step::Empty => rings.empty(sn),
         Step::Set(addr, v) => rings.set_pointer(sn, addr, v),
-        Step::Put(bytes) => {
-            assert!(rt; bytes.len() <= rings.free(sn) as usize, "{step:?}");
-            rings.put(sn, bytes);
-        }
-        Step::Datagram(header, body) => {
-            let free = rings.free(sn) as usize;
-            assert!(rt; free >= 8 && body.len() <= free - 8, "{step:?}");
-            rings.put_datagram(sn, header, body);
-        }
-        Step::Fill(bytes) => fill(rt, rings, sn, bytes),
-        Step::Room(len) => assert_eq!(rt; rings.room(sn).len(), len, "{step:?}"),
-        Step::RxRead(addr, v) => assert_eq!(rt; rings.rx_read(sn, addr), v, "{step:?}"),
-        Step::Release(left) => assert_eq!(rt; rings.release(sn), Ok(left), "{step:?}"),
+        Step::Put(bytes) if bytes.len() <= rings.free(sn) as usize => rings.put(sn, bytes),
+        Step::Datagram(header, body) => return put_datagram(rings, sn, header, body),
+        Step::Fill(bytes) => return fill(rings, sn, bytes),
+        Step::Room(len) => return rings.room(sn).len() == len,
+        Step::RxRead(addr, v) => return rings.rx_read(sn, addr) == v,
+        Step::Release(left) => return rings.release(sn) == Ok(left),
         Step::PastEnd(asked, there) => {
-            assert_eq!(rt;
-                rings.release(sn),
-                Err(ChipStop::RecvPastEnd { sn, asked, there }),
-                "{step:?}"
-            )
+            return rings.release(sn) == Err(ChipStop::RecvPastEnd { sn, asked, there });
         }
-        _ => {}
+        _ => return false,
     }
+    true
 }
 
-// Reads so many bytes into the room.
-fn fill(rt: &impl Abort, rings: &mut Rings, sn: u8, bytes: &[u8])
+// Puts a datagram, where it and its header are free.
+fn put_datagram(rings: &mut Rings, sn: u8, header: &[u8; 8], body: &[u8]) -> bool
+    requires { sn < 8 }
+{
+    let free = rings.free(sn) as usize;
+    if free < 8 || body.len() > free - 8 {
+        return false;
+    }
+    rings.put_datagram(sn, header, body);
+    true
+}
+
+// Reads so many bytes into the room, where it has them.
+fn fill(rings: &mut Rings, sn: u8, bytes: &[u8]) -> bool
     requires { sn < 8 }
 {
     let room = rings.room(sn);
-    assert!(rt; bytes.len() <= room.len());
+    if bytes.len() > room.len() {
+        return false;
+    }
     room[..bytes.len()].copy_from_slice(bytes);
     rings.filled(sn, bytes.len() as u32);
+    true
 }
 
-// New buffers of these sizes, on which a socket makes these calls.
+// New buffers of these sizes, on which a socket makes these calls, each of which comes out as wanted.
 fn take_steps(rt: &impl Abort, rings: &mut Rings, sn: u8, steps: &[Step])
     requires { sn < 8 }
 {
-    for step in steps {
-        if !take_sending(rt, rings, sn, *step) {
-            take_receiving(rt, rings, sn, *step);
-        }
+    for (place, step) in steps.iter().enumerate() {
+        let right = match take_sending(rings, sn, *step) {
+            Some(right) => right,
+            None => take_receiving(rings, sn, *step),
+        };
+        assert!(rt; right, "step {place}");
     }
 }
 
