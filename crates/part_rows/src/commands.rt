@@ -31,7 +31,7 @@ const FOURTH: ConnId = ConnId { sn: 3, life: 4 };
 
 const NONE: Due = Due::Nothing;
 
-#[derive(Clone, Copy, Debug)]
+#[derive(Clone, Copy)]
 enum Step {
     /// A command byte, while Sn_MR holds this, and what is answered.
     Command(u8, u8, Result<Effect, ChipStop>),
@@ -130,38 +130,36 @@ fn registers(mr: u8, sizes_valid: bool) -> CmdAt {
     }
 }
 
+/// The same while Sn_DIPR and Sn_DPORT hold another address.
+fn elsewhere(mr: u8) -> CmdAt {
+    CmdAt {
+        to: OTHER,
+        ..registers(mr, true)
+    }
+}
+
 #[test]
 fn lives_by_the_table(rt: HostRuntime) {
     let mut life = Life::new();
     for (step, in_flight, status, outgoing, incoming) in STEPS {
         assert!(rt; life.lives() < 5);
-        match step {
-            Command(c, mr, want) => assert_eq!(rt;
-                life.command(c, registers(mr, true)),
-                want,
-                "{step:?}"
-            ),
-            Unsized(c, mr, want) => assert_eq!(rt;
-                life.command(c, registers(mr, false)),
-                want,
-                "{step:?}"
-            ),
-            Elsewhere(c, mr, want) => assert_eq!(rt;
-                life.command(
-                    c,
-                    CmdAt {
-                        to: OTHER,
-                        ..registers(mr, true)
-                    }
-                ),
-                want,
-                "{step:?}"
-            ),
-            Link(what) => life.link_event(&what),
-            Reset => life.reset(),
-        }
-        assert_eq!(rt; life.status(), status, "{step:?}");
-        assert_eq!(rt; life.due(6, in_flight, 9), outgoing, "{step:?}");
-        assert_eq!(rt; life.due(7, in_flight, 9), incoming, "{step:?}");
+        let made = match step {
+            Command(c, mr, want) => life.command(c, registers(mr, true)) == want,
+            Unsized(c, mr, want) => life.command(c, registers(mr, false)) == want,
+            Elsewhere(c, mr, want) => life.command(c, elsewhere(mr)) == want,
+            Link(what) => {
+                life.link_event(&what);
+                true
+            }
+            Reset => {
+                life.reset();
+                true
+            }
+        };
+        let (first, second) = (life.due(6, in_flight, 9), life.due(7, in_flight, 9));
+        assert_eq!(rt;
+            (made, life.status(), first, second),
+            (true, status, outgoing, incoming)
+        );
     }
 }
