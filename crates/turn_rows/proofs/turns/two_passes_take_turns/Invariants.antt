@@ -1,5 +1,5 @@
 use Rattle.std.proofs.Common.{◌≡◌}
-use Rattle.link_rows.proofs.turns.two_passes_take_turns.Given as goal
+use Rattle.turn_rows.proofs.turns.two_passes_take_turns.Given as goal
 
 -- both passes stay of these turns
 abbrev pub invariant-loop-frame : goal.invariant-loop-frame

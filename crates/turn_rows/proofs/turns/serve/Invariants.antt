@@ -1,5 +1,5 @@
 use Rattle.std.proofs.Common.{◌≡◌}
-use Rattle.link_rows.proofs.turns.serve.Given as goal
+use Rattle.turn_rows.proofs.turns.serve.Given as goal
 
 -- the pass stays one of these turns
 abbrev pub invariant-loop : goal.invariant-loop

@@ -1,5 +1,5 @@
 use Rattle.std.proofs.Common.{◌≡◌}
-use Rattle.link_rows.proofs.serving.send_frame.Given as goal
+use Rattle.turn_rows.proofs.serving.send_frame.Given as goal
 
 -- The pass stays one of these turns.
 abbrev pub invariant-loop-byte : goal.invariant-loop-byte

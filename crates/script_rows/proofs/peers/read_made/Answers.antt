@@ -1,5 +1,5 @@
 use Rattle.std.proofs.Common.{refl}
-use Rattle.link_rows.proofs.scripted.read_made.Goals as goal
+use Rattle.script_rows.proofs.peers.read_made.Goals as goal
 
 pub returns : goal.returns
 returns c = c.read.ensures.makes.stays c.args.c c.requires.made refl
