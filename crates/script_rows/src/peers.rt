@@ -37,26 +37,53 @@ enum Step {
     Shut(Shutting),
 }
 
-/// The script of a server, and what is done with it.
+/// What a chunk says.
 #[derive(Clone, Copy)]
-struct Case {
+enum Said {
+    Bytes(&'static [u8]),
+    Zeros(usize),
+}
+
+/// A peer at an address, of a kind, whose connection comes to this, and what it does.
+#[derive(Clone, Copy)]
+struct Script {
+    kind: PeerKind,
+    addr: Addr,
+    connect: Connects,
     takes: &'static [u32],
     room: u32,
-    say: &'static [(u32, &'static [u8])],
+    say: &'static [(u32, Said)],
     end: Option<u32>,
     fail: u32,
     lag: u16,
+}
+
+/// A server that takes all and says nothing.
+const SERVER: Script = Script {
+    kind: PeerKind::Server,
+    addr: HERE,
+    connect: Connects::Fine,
+    takes: &[],
+    room: 65536,
+    say: &[],
+    end: None,
+    fail: 0,
+    lag: 0,
+};
+
+/// The script of a server, and what is done with it.
+#[derive(Clone, Copy)]
+struct Case {
+    script: Script,
     steps: &'static [Step],
 }
 
 const CASES: [Case; 8] = [
     Case {
-        takes: &[2, 0, 3],
-        room: 65536,
-        say: &[],
-        end: None,
-        fail: 0,
-        lag: 0,
+        script: Script {
+            takes: &[2, 0, 3],
+            ..SERVER
+        },
         steps: &[
             Step::Write(b"abcde", Writing::Done(2)),
             Step::Write(b"cde", Writing::NotYet),
@@ -66,12 +93,11 @@ const CASES: [Case; 8] = [
         ],
     },
     Case {
-        takes: &[],
-        room: 3,
-        say: &[(0, b"abc")],
-        end: None,
-        fail: 0,
-        lag: 0,
+        script: Script {
+            room: 3,
+            say: &[(0, Said::Bytes(b"abc"))],
+            ..SERVER
+        },
         steps: &[
             Step::Write(b"abcd", Writing::Done(3)),
             Step::Write(b"d", Writing::NotYet),
@@ -81,12 +107,15 @@ const CASES: [Case; 8] = [
         ],
     },
     Case {
-        takes: &[],
-        room: 65536,
-        say: &[(0, b"hi"), (9, b""), (2, b"yo")],
-        end: Some(4),
-        fail: 0,
-        lag: 0,
+        script: Script {
+            say: &[
+                (0, Said::Bytes(b"hi")),
+                (9, Said::Bytes(b"")),
+                (2, Said::Bytes(b"yo")),
+            ],
+            end: Some(4),
+            ..SERVER
+        },
         steps: &[
             Step::Read(4, Reading::Done(2), b"hi"),
             Step::Read(4, Reading::NotYet, b""),
@@ -98,12 +127,12 @@ const CASES: [Case; 8] = [
         ],
     },
     Case {
-        takes: &[],
-        room: 65536,
-        say: &[(0, b"hi")],
-        end: Some(0),
-        fail: 2,
-        lag: 0,
+        script: Script {
+            say: &[(0, Said::Bytes(b"hi"))],
+            end: Some(0),
+            fail: 2,
+            ..SERVER
+        },
         steps: &[
             Step::Write(b"ab", Writing::Done(2)),
             Step::Read(4, Reading::Failed, b""),
@@ -113,12 +142,11 @@ const CASES: [Case; 8] = [
         ],
     },
     Case {
-        takes: &[],
-        room: 0,
-        say: &[],
-        end: None,
-        fail: 1,
-        lag: 0,
+        script: Script {
+            room: 0,
+            fail: 1,
+            ..SERVER
+        },
         steps: &[
             Step::Shut(Shutting::Failed),
             Step::Shut(Shutting::Done),
@@ -126,12 +154,12 @@ const CASES: [Case; 8] = [
         ],
     },
     Case {
-        takes: &[],
-        room: 65536,
-        say: &[(0, b"abc"), (2, b"yo")],
-        end: Some(2),
-        fail: 0,
-        lag: 2,
+        script: Script {
+            say: &[(0, Said::Bytes(b"abc")), (2, Said::Bytes(b"yo"))],
+            end: Some(2),
+            lag: 2,
+            ..SERVER
+        },
         steps: &[
             Step::Read(2, Reading::NotYet, b""),
             Step::Read(2, Reading::NotYet, b""),
@@ -151,12 +179,12 @@ const CASES: [Case; 8] = [
         ],
     },
     Case {
-        takes: &[],
-        room: 65536,
-        say: &[(0, b"hi")],
-        end: None,
-        fail: 2,
-        lag: 1,
+        script: Script {
+            say: &[(0, Said::Bytes(b"hi"))],
+            fail: 2,
+            lag: 1,
+            ..SERVER
+        },
         steps: &[
             Step::Read(4, Reading::NotYet, b""),
             Step::Read(4, Reading::Failed, b""),
@@ -164,12 +192,12 @@ const CASES: [Case; 8] = [
         ],
     },
     Case {
-        takes: &[],
-        room: 65536,
-        say: &[(0, b"hi")],
-        end: None,
-        fail: 1,
-        lag: 1,
+        script: Script {
+            say: &[(0, Said::Bytes(b"hi"))],
+            fail: 1,
+            lag: 1,
+            ..SERVER
+        },
         steps: &[
             Step::Read(4, Reading::Failed, b""),
             Step::Read(4, Reading::NotYet, b""),
@@ -178,27 +206,48 @@ const CASES: [Case; 8] = [
     },
 ];
 
-/// A peer that says these chunks.
-fn peer_of(alloc: Global, kind: PeerKind, case: &Case) -> Result<Peer, AllocError> {
-    let mut say = Vec::new(alloc);
-    for chunk in case.say {
-        say.push(Chunk {
-            after: chunk.0,
-            bytes: chunk.1.to_vec(alloc)?,
-        })?;
+fn bytes_of(alloc: Global, said: Said) -> Result<Vec<u8>, AllocError> {
+    match said {
+        Said::Bytes(bytes) => bytes.to_vec(alloc),
+        Said::Zeros(count) => vec![in alloc; 0u8; count],
     }
+}
+
+/// What a peer says.
+fn chunks_of(alloc: Global, say: &[(u32, Said)]) -> Result<Vec<Chunk>, AllocError> {
+    let mut chunks = Vec::new(alloc);
+    for &(after, said) in say {
+        let bytes = bytes_of(alloc, said)?;
+        chunks.push(Chunk { after, bytes })?;
+    }
+    Ok(chunks)
+}
+
+/// A peer with this script, which knows the chip by port 7.
+fn peer_of(alloc: Global, script: &Script) -> Result<Peer, AllocError> {
+    let takes = script.takes.to_vec(alloc)?;
+    let say = chunks_of(alloc, script.say)?;
     Ok(Peer {
-        kind,
-        addr: HERE,
+        kind: script.kind,
+        addr: script.addr,
         chip: 7,
-        connect: Connects::Fine,
-        takes: case.takes.to_vec(alloc)?,
-        room: case.room,
+        connect: script.connect,
+        takes,
+        room: script.room,
         say,
-        end: case.end,
-        fail: case.fail,
-        lag: case.lag,
+        end: script.end,
+        fail: script.fail,
+        lag: script.lag,
     })
+}
+
+/// Links with peers of these scripts, in this order.
+fn links_of(alloc: Global, scripts: &[Script]) -> Result<ScriptLinks, AllocError> {
+    let mut peers = Vec::new(alloc);
+    for script in scripts {
+        peers.push(peer_of(alloc, script)?)?;
+    }
+    ScriptLinks::new(alloc, peers)
 }
 
 fn write_made(links: &mut ScriptLinks, c: ConnId, piece: &[u8]) -> Writing
@@ -317,27 +366,35 @@ fn play(rt: &impl Abort, session: &mut Session, steps: &[Step]) {
 #[test]
 fn servers_act_by_their_scripts(rt: HostRuntime) -> Result<(), Fail> {
     for case in &CASES {
-        let mut peers = Vec::new(rt.alloc());
-        peers.push(peer_of(rt.alloc(), PeerKind::Server, case)?)?;
-        let links = ScriptLinks::new(rt.alloc(), peers)?;
-        let mut session = open(links, FIRST, HERE, case.lag).ok_or("refused")?;
+        let links = links_of(rt.alloc(), &[case.script])?;
+        let mut session = open(links, FIRST, HERE, case.script.lag).ok_or("refused")?;
         play(&rt, &mut session, case.steps);
     }
     Ok(())
 }
 
+fn server() -> Script {
+    SERVER
+}
+
 /// Servers that refuse, never answer and connect, and a client.
-fn servers_and_client(alloc: Global) -> Result<Vec<Peer>, AllocError> {
-    let mut refusing = peer_of(alloc, PeerKind::Server, &CASES[0])?;
-    refusing.connect = Connects::Refused;
-    let mut silent = peer_of(alloc, PeerKind::Server, &CASES[0])?;
-    silent.connect = Connects::Timeout;
-    let mut peers = Vec::new(alloc);
-    peers.push(refusing)?;
-    peers.push(silent)?;
-    peers.push(peer_of(alloc, PeerKind::Server, &CASES[0])?)?;
-    peers.push(peer_of(alloc, PeerKind::Client, &CASES[0])?)?;
-    Ok(peers)
+fn servers_and_client() -> [Script; 4] {
+    let server = server();
+    [
+        Script {
+            connect: Connects::Refused,
+            ..server
+        },
+        Script {
+            connect: Connects::Timeout,
+            ..server
+        },
+        server,
+        Script {
+            kind: PeerKind::Client,
+            ..server
+        },
+    ]
 }
 
 /// A call on a connection that need not be made, with its answer.
@@ -429,7 +486,7 @@ const CONNECTS: [Ask; 8] = [
 
 #[test]
 fn each_server_answers_one_connection(rt: HostRuntime) -> Result<(), Fail> {
-    let mut links = ScriptLinks::new(rt.alloc(), servers_and_client(rt.alloc())?)?;
+    let mut links = links_of(rt.alloc(), &servers_and_client())?;
     assert_eq!(rt; answered(&mut links, &CONNECTS, &mut []), 8);
     let server = links.peer(2).ok_or("no peer")?;
     assert_eq!(rt; server.conn, Some(FIRST));
@@ -437,30 +494,23 @@ fn each_server_answers_one_connection(rt: HostRuntime) -> Result<(), Fail> {
     Ok(())
 }
 
-/// A datagram peer.
-const DATAGRAMS: Case = Case {
-    takes: &[9, 0, 1],
-    room: 4,
-    say: &[(0, b"hi")],
-    end: None,
-    fail: 7,
-    lag: 0,
-    steps: &[],
-};
+/// Chunks of which the second is longer than a datagram, and the third empty.
+const LONG_AND_EMPTY: &[(u32, Said)] = &[
+    (0, Said::Bytes(b"hi")),
+    (0, Said::Zeros(1473)),
+    (3, Said::Bytes(b"")),
+];
 
-/// It with a second chunk that is longer than a datagram, and an empty one.
-fn datagram_peer(alloc: Global) -> Result<Peer, AllocError> {
-    let mut peer = peer_of(alloc, PeerKind::Udp, &DATAGRAMS)?;
-    let long = vec![in alloc; 0u8; 1473]?;
-    peer.say.push(Chunk {
-        after: 0,
-        bytes: long,
-    })?;
-    peer.say.push(Chunk {
-        after: 3,
-        bytes: Vec::new(alloc),
-    })?;
-    Ok(peer)
+/// A datagram peer, whose second chunk is longer than a datagram, and whose third is empty.
+fn datagrams() -> Script {
+    Script {
+        kind: PeerKind::Udp,
+        takes: &[9, 0, 1],
+        room: 4,
+        say: LONG_AND_EMPTY,
+        fail: 7,
+        ..server()
+    }
 }
 
 const EXCHANGES: [Ask; 10] = [
@@ -478,9 +528,7 @@ const EXCHANGES: [Ask; 10] = [
 
 #[test]
 fn datagrams_come_and_go(rt: HostRuntime) -> Result<(), Fail> {
-    let mut peers = Vec::new(rt.alloc());
-    peers.push(datagram_peer(rt.alloc())?)?;
-    let mut links = ScriptLinks::new(rt.alloc(), peers)?;
+    let mut links = links_of(rt.alloc(), &[datagrams()])?;
     let mut buf = vec![in rt.alloc(); 0u8; 1472]?;
     assert_eq!(rt; answered(&mut links, &EXCHANGES, &mut buf), 10);
     let peer = links.peer(0).ok_or("no peer")?;
@@ -490,23 +538,41 @@ fn datagrams_come_and_go(rt: HostRuntime) -> Result<(), Fail> {
     Ok(())
 }
 
+const THREE_BYTES: &[(u32, Said)] = &[(0, Said::Bytes(b"abc"))];
+
+/// A server that has room for three bytes and says three.
+fn talker() -> Script {
+    Script {
+        room: 3,
+        say: THREE_BYTES,
+        ..server()
+    }
+}
+
 /// Peers that owe NotYets: a client and another behind it that owes none, a server that refuses, and a datagram peer.
-fn owing_peers(alloc: Global) -> Result<Vec<Peer>, AllocError> {
-    let mut client = peer_of(alloc, PeerKind::Client, &CASES[1])?;
-    client.lag = 2;
-    let mut other = peer_of(alloc, PeerKind::Client, &CASES[1])?;
-    other.addr = ELSEWHERE;
-    let mut refusing = peer_of(alloc, PeerKind::Server, &CASES[1])?;
-    refusing.connect = Connects::Refused;
-    refusing.lag = 1;
-    let mut datagrams = datagram_peer(alloc)?;
-    datagrams.lag = 1;
-    let mut peers = Vec::new(alloc);
-    peers.push(client)?;
-    peers.push(other)?;
-    peers.push(refusing)?;
-    peers.push(datagrams)?;
-    Ok(peers)
+fn owing() -> [Script; 4] {
+    let talker = talker();
+    [
+        Script {
+            kind: PeerKind::Client,
+            lag: 2,
+            ..talker
+        },
+        Script {
+            kind: PeerKind::Client,
+            addr: ELSEWHERE,
+            ..talker
+        },
+        Script {
+            connect: Connects::Refused,
+            lag: 1,
+            ..talker
+        },
+        Script {
+            lag: 1,
+            ..datagrams()
+        },
+    ]
 }
 
 const WAITS: [Ask; 15] = [
@@ -529,7 +595,7 @@ const WAITS: [Ask; 15] = [
 
 #[test]
 fn peers_that_owe_keep_calls_waiting(rt: HostRuntime) -> Result<(), Fail> {
-    let mut links = ScriptLinks::new(rt.alloc(), owing_peers(rt.alloc())?)?;
+    let mut links = links_of(rt.alloc(), &owing())?;
     let mut buf = vec![in rt.alloc(); 0u8; 1472]?;
     assert_eq!(rt; answered(&mut links, &WAITS, &mut buf), 15);
     Ok(())
