@@ -1,5 +1,5 @@
 //! Links without peers, and a poller that fails by a list.
-ghost use Rattle.std.specs.Prelude.{◌≡◌};
+ghost use Rattle.std.specs.Prelude.{◌≡◌, [], None};
 
 use chip_core::Chip;
 use chip_hist::History;
@@ -11,6 +11,7 @@ use chip_sheet::event::{BusEvent, Event};
 use link_script::ScriptLinks;
 use live_trait::{Gate, ListPoller, Point};
 use ready_loop::ready::run_ready;
+use std::alloc::Global;
 use std::process::Abort;
 use std::sync::Wait;
 use std::sync::atomic::AtomicU64;
@@ -57,44 +58,118 @@ fn send_frame<R: Wait + Abort>(
     assert!(rt; turn.bus(rt, pass, BusEvent::Select(false)).is_ok());
 }
 
+/// A row: which wait fails; whether sockets connect, and whether the other pass ends, before; the cause; link steps; from which place
+/// of the history on there is no event of the bus, and its length.
+#[derive(Clone, Copy)]
+struct Row {
+    fails: u64,
+    connects: bool,
+    ends: bool,
+    want: Over,
+    steps: u64,
+    first: u64,
+    len: u64,
+}
+
+/// A row in which nothing comes before.
+fn idle(fails: u64, steps: u64, len: u64) -> Row {
+    Row {
+        fails,
+        connects: false,
+        ends: false,
+        want: Over::PollFault,
+        steps,
+        first: 0,
+        len,
+    }
+}
+
+/// A row in which sockets connect before.
+fn connected(ends: bool, want: Over, steps: u64, len: u64) -> Row {
+    Row {
+        fails: 1,
+        connects: true,
+        ends,
+        want,
+        steps,
+        first: 36,
+        len,
+    }
+}
+
+/// A chip after power-on, links without peers, and a history of a thousand units.
+fn board<R: Abort>(rt: &R, alloc: Global) -> Shared<ScriptLinks>
+    ensures past { result.log.past ≡ [] }
+    ensures unstopped { result.stopped ≡ None }
+{
+    let chip = Chip::new(alloc, 0, 0).expect(rt, "memory");
+    let script = ScriptLinks::new(alloc, Vec::new(alloc)).expect(rt, "memory");
+    Shared::new(chip, History::new(alloc, 1000), script)
+}
+
+/// What the firmware's pass does before.
+fn begin<R: Wait + Abort>(
+    rt: &R,
+    turn: &Turn<ScriptLinks>,
+    firmware: &mut Pass<ScriptLinks>,
+    row: &Row,
+)
+    requires { firmware.old.turn ≡ turn.now }
+    ensures { firmware.new.turn ≡ turn.now }
+{
+    if row.connects {
+        for frame in &FRAMES {
+            send_frame(rt, turn, firmware, frame);
+        }
+    }
+    if row.ends {
+        let _ = turn.end(rt, firmware, Over::Finished);
+    }
+}
+
+fn failing<R: Abort>(rt: &R, alloc: Global, fails: u64) -> ListPoller {
+    let mut list = Vec::new(alloc);
+    list.push(fails).expect(rt, "memory");
+    ListPoller::new(list)
+}
+
+/// Whether a history has so many entries, and no event of the bus from a place on.
+fn is_quiet(history: &History, first: u64, len: u64) -> bool {
+    for place in first..len {
+        if matches!(history.get(place), Some(Event::Bus(_, _))) {
+            return false;
+        }
+    }
+    history.len() == len
+}
+
+fn serve<R: Wait + Abort>(rt: &R, alloc: Global, row: &Row) {
+    let Ok((turn, mut firmware, mut links)) = Turn::start(alloc, board(rt, alloc)) else {
+        panic!(rt; "memory")
+    };
+    begin(rt, &turn, &mut firmware, row);
+    let mut poller = failing(rt, alloc, row.fails);
+    let gate = CountGate {
+        passed: AtomicU64::new(0),
+    };
+    assert_eq!(rt;
+        run_ready(rt, &turn, &mut links, &mut poller, &gate),
+        row.want
+    );
+    assert_eq!(rt; gate.passed.load(SeqCst), row.steps);
+    assert_eq!(rt; turn.end(rt, &mut firmware, Over::Finished), row.want);
+    let (_, history, _) = turn.close(firmware, links).into_parts();
+    assert!(rt; is_quiet(&history, row.first, row.len));
+}
+
 #[test]
 fn serves_until_a_wait_fails_or_the_turns_are_over(rt: HostRuntime) {
-    let alloc = rt.alloc();
-    // which wait fails; whether sockets connect, and whether the other pass ends, before; the cause; link steps; from which place of
-    // the history on there is no event of the bus, and its length
-    for (fails, connects, ends, want, steps, first, len) in [
-        (1, false, false, Over::PollFault, 1, 0, 3),
-        (3, false, false, Over::PollFault, 3, 0, 5),
-        (1, true, false, Over::PollFault, 3, 36, 41),
-        (1, true, true, Over::Finished, 0, 36, 38),
+    for row in [
+        idle(1, 1, 3),
+        idle(3, 3, 5),
+        connected(false, Over::PollFault, 3, 41),
+        connected(true, Over::Finished, 0, 38),
     ] {
-        let chip = Chip::new(alloc, 0, 0).expect(&rt, "memory");
-        let script = ScriptLinks::new(alloc, Vec::new(alloc)).expect(&rt, "memory");
-        let shared = Shared::new(chip, History::new(alloc, 1000), script);
-        let Ok((turn, mut firmware, mut links)) = Turn::start(alloc, shared) else {
-            panic!(rt; "memory")
-        };
-        if connects {
-            for frame in &FRAMES {
-                send_frame(&rt, &turn, &mut firmware, frame);
-            }
-        }
-        if ends {
-            let _ = turn.end(&rt, &mut firmware, Over::Finished);
-        }
-        let mut failing = Vec::new(alloc);
-        failing.push(fails).expect(&rt, "memory");
-        let mut poller = ListPoller::new(failing);
-        let gate = CountGate {
-            passed: AtomicU64::new(0),
-        };
-        assert_eq!(rt; run_ready(&rt, &turn, &mut links, &mut poller, &gate), want);
-        assert_eq!(rt; gate.passed.load(SeqCst), steps);
-        assert_eq!(rt; turn.end(&rt, &mut firmware, Over::Finished), want);
-        let (_, history, _) = turn.close(firmware, links).into_parts();
-        assert_eq!(rt; history.len(), len);
-        for place in first..len {
-            assert!(rt; !matches!(history.get(place), Some(Event::Bus(_, _))));
-        }
+        serve(&rt, rt.alloc(), &row);
     }
 }

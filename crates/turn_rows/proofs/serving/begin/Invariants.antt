@@ -1,5 +1,5 @@
 use Rattle.std.proofs.Common.{◌≡◌}
-use Rattle.turn_rows.proofs.serving.serves_until_a_wait_fails_or_the_turns_are_over.Given as goal
+use Rattle.turn_rows.proofs.serving.begin.Given as goal
 
 -- The firmware's pass stays one of these turns.
 abbrev pub invariant-loop-frame : goal.invariant-loop-frame
