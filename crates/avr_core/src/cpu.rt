@@ -11,7 +11,7 @@ pub(crate) const Y: u8 = 28;
 pub(crate) const Z: u8 = 30;
 
 /// A core of the ATmega328P: 32 registers, PC, SP and SREG.
-#[derive(Clone, Copy, Debug, PartialEq, Eq)]
+#[derive(Clone, Copy, PartialEq, Eq)]
 pub struct Core {
     pub(crate) regs: [u8; 32],
     pub(crate) pc: u16,

@@ -10,7 +10,7 @@ const WORDS: u32 = 0x4000;
 
 /// What stands at a word address of flash, decoded. The fields are the instruction's; `Illegal` and `Undefined` are words that
 /// cannot be run. The first four are those behind which more than the core has to be looked at, so `Core::run_plain` leaves them.
-#[derive(Clone, Copy, Debug, PartialEq, Eq)]
+#[derive(Clone, Copy)]
 pub enum Op {
     Sleep,
     Break,

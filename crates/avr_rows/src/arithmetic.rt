@@ -3,6 +3,7 @@
 //!
 //! SREG is I T H S V N Z C, from bit 7 down.
 use avr_alu::*;
+use avr_sheet::weighed;
 
 /// A byte and SREG.
 type Byte = (u8, u8);
@@ -329,12 +330,12 @@ fn products_by_the_manual(rt: HostRuntime) {
 
 /// SREG with I and T of `sreg` and these flags; S is the sign of the whole result, which an overflow does not change.
 fn packed(half: bool, below: bool, overflow: bool, value: u8, zero: bool, carry: bool) -> u8 {
-    0xC0 + 0x20 * u8::from(half)
-        + 0x10 * u8::from(below)
-        + 0x08 * u8::from(overflow)
-        + 0x04 * (value / 128)
-        + 0x02 * u8::from(zero)
-        + u8::from(carry)
+    0xC0 | weighed(half, 0x20)
+        | weighed(below, 0x10)
+        | weighed(overflow, 0x08)
+        | weighed(value >= 128, 0x04)
+        | weighed(zero, 0x02)
+        | weighed(carry, 0x01)
 }
 
 /// The sum by its whole value: signed bytes are counted from -128, so that 256 stands for 0.

@@ -336,7 +336,7 @@ fn end_of(
     let before = core;
     let went = core.step(&flash, &mut bus);
     if matches!(went, Went::BusOver | Went::Stop(_)) {
-        assert_eq!(rt; core, before);
+        assert!(rt; core == before);
     }
     Ok(went)
 }

@@ -1,7 +1,7 @@
 //! The instructions, one variant for each row of the instruction table.
 /// The pointer of an `ld` or `st`, and what becomes of it (AVR Instruction Set Manual, LD and ST).
 /// X is r27:r26, Y is r29:r28, Z is r31:r30.
-#[derive(Clone, Copy, Debug, PartialEq, Eq)]
+#[derive(Clone, Copy)]
 pub enum Pointer {
     /// `Z+`: at Z, which then rises by one.
     ZInc,
@@ -21,7 +21,7 @@ pub enum Pointer {
 
 /// Sums, differences and comparisons. `d` and `r` are register numbers, 0 to 31; with a constant `k`
 /// (0 to 255) `d` is 16 to 31.
-#[derive(Clone, Copy, Debug, PartialEq, Eq)]
+#[derive(Clone, Copy)]
 pub enum Sums {
     /// `cpc rd, rr`: compares with carry.
     Cpc { d: u8, r: u8 },
@@ -54,7 +54,7 @@ pub enum Sums {
 }
 
 /// Products of two registers, put into r1:r0.
-#[derive(Clone, Copy, Debug, PartialEq, Eq)]
+#[derive(Clone, Copy)]
 pub enum Products {
     /// `muls rd, rr`: signed times signed; `d` and `r` are 16 to 31.
     Muls { d: u8, r: u8 },
@@ -71,7 +71,7 @@ pub enum Products {
 }
 
 /// Logic and shifts. `d` and `r` are 0 to 31; with a constant `k` (0 to 255) `d` is 16 to 31.
-#[derive(Clone, Copy, Debug, PartialEq, Eq)]
+#[derive(Clone, Copy)]
 pub enum Logic {
     /// `and rd, rr`: logical and.
     And { d: u8, r: u8 },
@@ -96,7 +96,7 @@ pub enum Logic {
 }
 
 /// Moves between registers, data memory, flash and I/O. `d` and `r` are 0 to 31 where nothing else is said.
-#[derive(Clone, Copy, Debug, PartialEq, Eq)]
+#[derive(Clone, Copy)]
 pub enum Moves {
     /// `movw rd, rr`: copies the pair `r` + 1 : `r` to `d` + 1 : `d`; both are even.
     Movw { d: u8, r: u8 },
@@ -137,7 +137,7 @@ pub enum Moves {
 }
 
 /// Jumps, calls, returns, branches and skips. A relative `k` counts words from the next instruction.
-#[derive(Clone, Copy, Debug, PartialEq, Eq)]
+#[derive(Clone, Copy)]
 pub enum Jumps {
     /// `cpse rd, rr`: skips the next instruction where both registers (0 to 31) are equal.
     Cpse { d: u8, r: u8 },
@@ -172,7 +172,7 @@ pub enum Jumps {
 }
 
 /// Bits of SREG, of I/O places and of registers, and control of the microcontroller.
-#[derive(Clone, Copy, Debug, PartialEq, Eq)]
+#[derive(Clone, Copy)]
 pub enum Bits {
     /// `nop`: nothing.
     Nop,
@@ -199,7 +199,7 @@ pub enum Bits {
 }
 
 /// One instruction: a row of the table with its fields.
-#[derive(Clone, Copy, Debug, PartialEq, Eq)]
+#[derive(Clone, Copy)]
 pub enum Instr {
     /// A sum, difference or comparison.
     Sums(Sums),
