@@ -9,7 +9,7 @@ use std::marker::Model;
 ///
 /// The console sends its next byte where the receiver is on and has room. A frame arrives one frame time after the latest of: the receiver
 /// going on, the last arrival, and the reading that made room; the frame time is the one that held at that moment.
-#[derive(Debug, Drop)]
+#[derive(Drop)]
 pub struct Console {
     cycle: u64,
     on: bool,

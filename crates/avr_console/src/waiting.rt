@@ -3,7 +3,7 @@ ghost use Rattle.std.specs.Prelude.{◌≡◌};
 ghost use Rattle.avr_console.specs.Console.{has_room, is_ready, joined};
 
 /// The bytes that wait to be read (the receive buffer of two bytes of the datasheet's "Receiver").
-#[derive(Clone, Copy, Debug, PartialEq, Eq)]
+#[derive(Clone, Copy)]
 pub enum Waiting {
     /// None waits.
     Nothing,

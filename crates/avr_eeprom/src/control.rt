@@ -5,7 +5,7 @@ ghost use Rattle.avr_eeprom.specs.Eeprom.{byte_control, one_bit_control};
 use avr_sheet::{is_set, with_bit};
 
 /// What a write of EECR asks for (ATmega328P datasheet, "The EEPROM Control Register").
-#[derive(Clone, Copy, Debug, PartialEq, Eq)]
+#[derive(Clone, Copy)]
 pub struct Control {
     /// What EEPM1..0 become, as a number from 0 to 3.
     pub mode: u8,

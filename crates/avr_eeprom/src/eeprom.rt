@@ -27,7 +27,7 @@ const READY_VECTOR: u8 = 0x2C;
 ///
 /// Addresses are data addresses, 003F to 0042: a place of the I/O space stands at its number plus 20 hexadecimal. Reads and
 /// writes happen at the cycle count that was passed last, 0 at the start. Nothing but `new` takes memory.
-#[derive(Debug, Drop)]
+#[derive(Drop)]
 pub struct Eeprom {
     cycle: u64,
     ready_enabled: bool,

@@ -6,7 +6,7 @@ ghost use Rattle.avr_eeprom.specs.Eeprom.{WRITE_CYCLES};
 pub const WRITE_CYCLES: u64 = 54_400;
 
 /// A write of a cell that has begun and is not complete.
-#[derive(Clone, Copy, Debug, PartialEq, Eq)]
+#[derive(Clone, Copy)]
 pub struct Writing {
     /// The cycle count at which it began.
     pub began: u64,

@@ -3,7 +3,7 @@ ghost use Rattle.std.specs.Prelude.{◌≡◌, ◌<◌};
 ghost use Rattle.avr_ports.specs.Sense.{sense_of, is_edge, is_low_level};
 
 /// What makes an external interrupt request (ATmega328P datasheet, EICRA).
-#[derive(Clone, Copy, Debug, PartialEq, Eq)]
+#[derive(Clone, Copy)]
 pub enum Sense {
     /// The pin is low.
     LowLevel,
@@ -16,7 +16,7 @@ pub enum Sense {
 }
 
 /// The registers of INT0 and INT1.
-#[derive(Clone, Copy, Debug, PartialEq, Eq)]
+#[derive(Clone, Copy)]
 pub struct External {
     /// EICRA: the sense of INT0 in bits 1..0 and that of INT1 in bits 3..2.
     pub eicra: u8,
@@ -57,5 +57,5 @@ pub fn is_edge(sense: Sense, was: bool, high: bool) -> bool
 pub fn is_low_level(sense: Sense) -> bool
     ensures { result ≡ is_low_level sense }
 {
-    sense == Sense::LowLevel
+    matches!(sense, Sense::LowLevel)
 }

@@ -1,6 +1,6 @@
 //! A port by its registers (datasheet, "I/O-Ports").
 /// The part's three ports.
-#[derive(Clone, Copy, Debug, PartialEq, Eq)]
+#[derive(Clone, Copy)]
 pub enum PortName {
     /// Port B, with the pins PB0 to PB7.
     B,
@@ -11,7 +11,7 @@ pub enum PortName {
 }
 
 /// The registers of one port.
-#[derive(Clone, Copy, Debug, PartialEq, Eq)]
+#[derive(Clone, Copy)]
 pub struct Port {
     /// DDRx: a pin with a 1 is an output.
     pub ddr: u8,

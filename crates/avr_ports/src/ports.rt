@@ -30,7 +30,7 @@ const PCINT2: u8 = 0x0A;
 ///
 /// Addresses are data addresses: a place of the I/O space stands at its number plus 20 hexadecimal. A vector is
 /// named by its word address in flash. Nothing here takes memory or stops the part.
-#[derive(Clone, Copy, Debug, PartialEq, Eq)]
+#[derive(Clone, Copy)]
 pub struct Ports {
     int_high: bool,
     pcicr: u8,

@@ -5,7 +5,7 @@ ghost use Rattle.avr_ports.specs.Registers.{register_at, io_register};
 use crate::port::PortName;
 
 /// The registers of the ports and of their interrupts.
-#[derive(Clone, Copy, Debug, PartialEq, Eq)]
+#[derive(Clone, Copy)]
 pub enum Register {
     /// PINx, which reads the pins' levels and toggles PORT bits.
     Pin(PortName),

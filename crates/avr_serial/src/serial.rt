@@ -24,7 +24,7 @@ const TX_VECTOR: u8 = 0x28;
 ///
 /// A write of SPDR is made in two parts, since the byte goes to the chip between them: `spi_start` says what goes
 /// out, and then either `spi_got` takes the answer, or `write` does the rest where nothing went out.
-#[derive(Clone, Copy, Debug, PartialEq, Eq)]
+#[derive(Clone, Copy)]
 pub struct Serial {
     cycle: u64,
     spi: Spi,

@@ -36,7 +36,7 @@ const TIMER0_OVF: u8 = 0x20;
 /// The three timers of an ATmega328P.
 ///
 /// Addresses are data addresses, and a vector is named by its word address in flash.
-#[derive(Clone, Copy, Debug, PartialEq, Eq)]
+#[derive(Clone, Copy, PartialEq, Eq)]
 pub struct Timers {
     assr: u8,
     timer0: Timer8,

@@ -4,7 +4,7 @@ use std::process::Abort;
 use std::test::Fail;
 
 // One call, with what comes of it. The last number of `Enable` is the cycle count.
-#[derive(Clone, Copy, Debug)]
+#[derive(Clone, Copy)]
 enum Step {
     Enable(bool, u32, u64),
     Pass(u64, u64),
@@ -13,7 +13,7 @@ enum Step {
     Next(u64),
 }
 
-fn take_step(rt: &impl Abort, console: &mut Console, step: Step) {
+fn take_step(rt: &impl Abort, console: &mut Console, place: usize, step: Step) {
     match step {
         Step::Enable(on, frame, at) => console.enable(on, frame, at),
         Step::Pass(from, to) => {
@@ -21,9 +21,9 @@ fn take_step(rt: &impl Abort, console: &mut Console, step: Step) {
                 console.pass(from, to);
             }
         }
-        Step::Ready(want) => assert_eq!(rt; console.ready(), want, "{step:?}"),
-        Step::Take(want) => assert_eq!(rt; console.take(), want, "{step:?}"),
-        Step::Next(want) => assert_eq!(rt; console.next_event(), want, "{step:?}"),
+        Step::Ready(want) => assert_eq!(rt; console.ready(), want, "step {place}"),
+        Step::Take(want) => assert_eq!(rt; console.take(), want, "step {place}"),
+        Step::Next(want) => assert_eq!(rt; console.next_event(), want, "step {place}"),
     }
 }
 
@@ -60,8 +60,8 @@ const STEPS: [Step; 24] = [
 fn bytes_arrive_a_frame_time_apart(rt: HostRuntime) -> Result<(), Fail> {
     let bytes = vec![in rt.alloc(); 0x48, 0x69, 0x21, 0x0D, 0x0A]?;
     let mut console = Console::new(bytes);
-    for step in STEPS {
-        take_step(&rt, &mut console, step);
+    for (place, step) in STEPS.iter().enumerate() {
+        take_step(&rt, &mut console, place, *step);
     }
     assert_eq!(rt; console.take(), Some(0x21), "the third byte");
     console.pass(2119, 2200);

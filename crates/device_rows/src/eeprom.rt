@@ -13,7 +13,7 @@ const EEARL: u16 = 0x41;
 const EEARH: u16 = 0x42;
 
 // One call, with what comes of it.
-#[derive(Clone, Copy, Debug)]
+#[derive(Clone, Copy)]
 enum Step {
     Write(u16, u8),
     Set(u8),
@@ -24,17 +24,17 @@ enum Step {
 }
 
 // Makes one call at a cycle count, and answers the count after it.
-fn take_step(rt: &impl Abort, eeprom: &mut Eeprom, now: u64, step: Step) -> u64 {
+fn take_step(rt: &impl Abort, eeprom: &mut Eeprom, now: u64, place: usize, step: Step) -> u64 {
     match step {
-        Step::Write(addr, v) => assert_eq!(rt; eeprom.write(addr, v), Ok(()), "{step:?}"),
-        Step::Set(bit) => assert_eq!(rt; eeprom.write_bit(bit & 7, true), Ok(()), "{step:?}"),
+        Step::Write(addr, v) => assert_eq!(rt; eeprom.write(addr, v), Ok(()), "step {place}"),
+        Step::Set(bit) => assert_eq!(rt; eeprom.write_bit(bit & 7, true), Ok(()), "step {place}"),
         Step::SetStops(bit) => assert_eq!(rt;
             eeprom.write_bit(bit & 7, true),
             Err(DeviceStop::Eeprom),
-            "{step:?}"
+            "step {place}"
         ),
-        Step::Read(addr, want) => assert_eq!(rt; eeprom.read(addr), want, "{step:?}"),
-        Step::Pending(want) => assert_eq!(rt; eeprom.pending(), want, "{step:?}"),
+        Step::Read(addr, want) => assert_eq!(rt; eeprom.read(addr), want, "step {place}"),
+        Step::Pending(want) => assert_eq!(rt; eeprom.pending(), want, "step {place}"),
         Step::Pass(cycles) => {
             let to = now.saturating_add(cycles);
             eeprom.pass(now, to);
@@ -97,8 +97,8 @@ const STEPS: [Step; 44] = [
 fn writes_and_reads_cells(rt: HostRuntime) -> Result<(), Fail> {
     let mut eeprom = Eeprom::new(rt.alloc())?;
     let mut now = 0;
-    for step in STEPS {
-        now = take_step(&rt, &mut eeprom, now, step);
+    for (place, step) in STEPS.iter().enumerate() {
+        now = take_step(&rt, &mut eeprom, now, place, *step);
     }
     Ok(())
 }

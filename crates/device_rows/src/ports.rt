@@ -3,7 +3,7 @@ use avr_ports::Ports;
 use std::test::Fail;
 
 /// A call on the ports.
-#[derive(Clone, Copy, Debug)]
+#[derive(Clone, Copy)]
 enum Call {
     /// A write of a data address.
     Write(u16, u8),
@@ -18,7 +18,7 @@ enum Call {
 }
 
 /// Calls from reset on, and what is there after them: PIND, EIFR, PCIFR and the pending vector.
-#[derive(Clone, Copy, Debug)]
+#[derive(Clone, Copy)]
 struct Row([Call; 5], u8, u8, u8, Option<u8>);
 
 /// No call: a write where no register stands.

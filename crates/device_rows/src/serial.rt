@@ -23,7 +23,7 @@ const UBRR0H: u16 = 0xC5;
 const UDR0: u16 = 0xC6;
 
 // One call, with what comes of it.
-#[derive(Clone, Copy, Debug)]
+#[derive(Clone, Copy)]
 enum Step {
     Write(u16, u8),
     Stop(u16, u8, DeviceStop),
@@ -38,17 +38,21 @@ enum Step {
 }
 
 // Makes one call at a cycle count, and answers the count after it.
-fn take_step(rt: &impl Abort, serial: &mut Serial, now: u64, step: Step) -> u64 {
+fn take_step(rt: &impl Abort, serial: &mut Serial, now: u64, place: usize, step: Step) -> u64 {
     match step {
-        Step::Write(addr, v) => assert_eq!(rt; serial.write(addr, v), Ok(()), "{step:?}"),
-        Step::Stop(addr, v, stop) => assert_eq!(rt; serial.write(addr, v), Err(stop), "{step:?}"),
-        Step::Read(addr, want) => assert_eq!(rt; serial.read(addr), want, "{step:?}"),
-        Step::Start(v, want) => assert_eq!(rt; serial.spi_start(v), Ok(want), "{step:?}"),
-        Step::StartStops(v, stop) => assert_eq!(rt; serial.spi_start(v), Err(stop), "{step:?}"),
+        Step::Write(addr, v) => assert_eq!(rt; serial.write(addr, v), Ok(()), "step {place}"),
+        Step::Stop(addr, v, stop) => assert_eq!(rt;
+            serial.write(addr, v),
+            Err(stop),
+            "step {place}"
+        ),
+        Step::Read(addr, want) => assert_eq!(rt; serial.read(addr), want, "step {place}"),
+        Step::Start(v, want) => assert_eq!(rt; serial.spi_start(v), Ok(want), "step {place}"),
+        Step::StartStops(v, stop) => assert_eq!(rt; serial.spi_start(v), Err(stop), "step {place}"),
         Step::Got(miso) => serial.spi_got(now, miso),
-        Step::Pending(want) => assert_eq!(rt; serial.pending(), want, "{step:?}"),
+        Step::Pending(want) => assert_eq!(rt; serial.pending(), want, "step {place}"),
         Step::Served(vector) => serial.served(vector),
-        Step::Printed(want) => assert_eq!(rt; serial.printed(), want, "{step:?}"),
+        Step::Printed(want) => assert_eq!(rt; serial.printed(), want, "step {place}"),
         Step::Pass(cycles) => {
             let to = now.saturating_add(cycles);
             serial.pass(now, to);
@@ -60,8 +64,8 @@ fn take_step(rt: &impl Abort, serial: &mut Serial, now: u64, step: Step) -> u64 
 
 fn take_steps(rt: &impl Abort, serial: &mut Serial, steps: &[Step]) {
     let mut now = 0;
-    for step in steps {
-        now = take_step(rt, serial, now, *step);
+    for (place, step) in steps.iter().enumerate() {
+        now = take_step(rt, serial, now, place, *step);
     }
 }
 

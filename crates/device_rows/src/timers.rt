@@ -1,6 +1,7 @@
 //! Worked by hand from the datasheet's description of the modes, registers and interrupts.
 use avr_sheet::DeviceStop;
 use avr_timer::Timers;
+use std::process::Abort;
 use std::test::Fail;
 
 const TIFR0: u16 = 0x35;
@@ -16,7 +17,7 @@ const OCR0A: u16 = 0x47;
 const OCR0B: u16 = 0x48;
 
 /// A run of timer 0: TCCR0A, TCCR0B, TCNT0, OCR0A and OCR0B before it, its cycles, and TCNT0 and TIFR0 after it.
-#[derive(Clone, Copy, Debug)]
+#[derive(Clone, Copy)]
 struct Row(u8, u8, u8, u8, u8, u64, u64, u8, u8);
 
 #[rattlefmt::skip]
@@ -96,7 +97,7 @@ fn timer0_by_mode(rt: HostRuntime) -> Result<(), Fail> {
 #[test]
 fn spans_are_their_cuts(rt: HostRuntime) -> Result<(), Fail> {
     let mut random = 1u64;
-    for row in ROWS.iter() {
+    for (i, row) in ROWS.iter().enumerate() {
         let mut whole = set_up(row)?;
         let mut cut = set_up(row)?;
         let mut single = set_up(row)?;
@@ -115,121 +116,144 @@ fn spans_are_their_cuts(rt: HostRuntime) -> Result<(), Fail> {
             single.pass(cycle, cycle + 1);
         }
         whole.pass(0, at);
-        assert_eq!(rt; whole, cut);
-        assert_eq!(rt; whole, single);
+        assert!(rt; whole == cut, "row {i}");
+        assert!(rt; whole == single, "row {i}");
     }
     Ok(())
 }
 
-#[test]
-fn timer1_by_bytes(rt: HostRuntime) -> Result<(), Fail> {
-    let mut timers = Timers::new();
-    timers.write(0x85, 0x12)?;
-    timers.write(0x84, 0x34)?;
-    timers.write(0x89, 0x12)?;
-    timers.write(0x88, 0x36)?;
-    timers.write(0x86, 0xCD)?;
-    assert_eq!(rt; timers.read(0x86), 0xCD);
-    assert_eq!(rt; timers.read(0x87), 0x12);
-    timers.write(0x8B, 0xFF)?;
-    assert_eq!(rt; timers.read(0x8B), 0x00);
-    assert_eq!(rt; timers.read(0x84), 0x34);
-    assert_eq!(rt; timers.read(0x85), 0x12);
-    timers.write(0x6F, 0x02)?;
-    timers.write(0x81, 0x01)?;
-    timers.pass(0, 2);
-    assert_eq!(rt; timers.read(0x36), 0x02);
-    assert_eq!(rt; timers.pending(), Some(0x16));
-    timers.write(0x36, 0x05)?;
-    assert_eq!(rt; timers.pending(), Some(0x16));
-    timers.served(0x18);
-    assert_eq!(rt; timers.pending(), Some(0x16));
-    timers.served(0x16);
-    assert_eq!(rt; timers.pending(), None);
-    timers.write(0x80, 0x02)?;
-    timers.write(0x81, 0x19)?;
-    timers.pass(0, 65536);
-    assert_eq!(rt; timers.read(0x36), 0x07);
-    Ok(())
+/// A call on the timers, with what comes of it.
+#[derive(Clone, Copy)]
+enum Step {
+    Write(u16, u8),
+    Stop(u16, u8, DeviceStop),
+    Read(u16, u8),
+    Pass(u64, u64),
+    Pending(Option<u8>),
+    Served(u8),
 }
 
-#[test]
-fn timer2_has_its_own_prescaler(rt: HostRuntime) -> Result<(), Fail> {
-    let mut timers = Timers::default();
-    timers.write(0xB1, 3)?;
-    timers.write(0x45, 3)?;
-    timers.write(0xB3, 1)?;
-    timers.write(0x70, 2)?;
-    timers.pass(0, 63);
-    assert_eq!(rt; timers.read(0xB2), 1);
-    assert_eq!(rt; timers.read(0x46), 0);
-    assert_eq!(rt; timers.pending(), Some(0x0E));
-    timers.write(0xB1, 7)?;
-    timers.pass(63, 1024);
-    assert_eq!(rt; timers.read(0xB2), 2);
-    Ok(())
+/// Makes one call. A write that stops leaves all timers as they were.
+fn take_step(rt: &impl Abort, timers: &mut Timers, place: usize, step: Step) {
+    match step {
+        Step::Write(addr, v) => assert_eq!(rt; timers.write(addr, v), Ok(()), "step {place}"),
+        Step::Stop(addr, v, stop) => {
+            let before = *timers;
+            assert_eq!(rt; timers.write(addr, v), Err(stop), "step {place}");
+            assert!(rt; *timers == before, "step {place}");
+        }
+        Step::Read(addr, want) => assert_eq!(rt; timers.read(addr), want, "step {place}"),
+        Step::Pass(from, to) => {
+            if from <= to {
+                timers.pass(from, to);
+            }
+        }
+        Step::Pending(want) => assert_eq!(rt; timers.pending(), want, "step {place}"),
+        Step::Served(vector) => timers.served(vector),
+    }
 }
 
-#[test]
-fn stops(rt: HostRuntime) -> Result<(), Fail> {
-    let mut timers = Timers::new();
-    timers.write(0x45, 0xC8)?;
-    assert_eq!(rt; timers.read(0x45), 0x08);
-    let before = timers;
-    assert_eq!(rt;
-        timers.write(0x45, 6),
-        Err(DeviceStop::ExternalClock { timer: 0 })
-    );
-    assert_eq!(rt;
-        timers.write(0x45, 9),
-        Err(DeviceStop::TimerMode { timer: 0, mode: 4 })
-    );
-    assert_eq!(rt;
-        timers.write(0x81, 0x11),
-        Err(DeviceStop::TimerMode { timer: 1, mode: 8 })
-    );
-    assert_eq!(rt;
-        timers.write(0x81, 0x17),
-        Err(DeviceStop::ExternalClock { timer: 1 })
-    );
-    assert_eq!(rt;
-        timers.write(0xB6, 0x20),
-        Err(DeviceStop::ExternalClock { timer: 2 })
-    );
-    assert_eq!(rt; timers, before);
-    timers.write(0xB0, 0x10)?;
-    assert_eq!(rt;
-        timers.write(0xB1, 6),
-        Err(DeviceStop::WaveformPin { timer: 2 })
-    );
-    timers.write(0x45, 1)?;
-    timers.write(0x44, 2)?;
-    assert_eq!(rt;
-        timers.write(0x45, 9),
-        Err(DeviceStop::TimerMode { timer: 0, mode: 6 })
-    );
-    assert_eq!(rt;
-        timers.write(0x44, 0x40),
-        Err(DeviceStop::WaveformPin { timer: 0 })
-    );
-    assert_eq!(rt; timers.read(0x44), 2);
-    Ok(())
+fn take_steps(rt: &impl Abort, timers: &mut Timers, steps: &[Step]) {
+    for (place, step) in steps.iter().enumerate() {
+        take_step(rt, timers, place, *step);
+    }
 }
 
+/// Timer 1: a word is written high byte first and read low byte first, its flags and its vectors.
+const TIMER1: [Step; 26] = [
+    Step::Write(0x85, 0x12),
+    Step::Write(0x84, 0x34),
+    Step::Write(0x89, 0x12),
+    Step::Write(0x88, 0x36),
+    Step::Write(0x86, 0xCD),
+    Step::Read(0x86, 0xCD),
+    Step::Read(0x87, 0x12),
+    Step::Write(0x8B, 0xFF),
+    Step::Read(0x8B, 0x00),
+    Step::Read(0x84, 0x34),
+    Step::Read(0x85, 0x12),
+    Step::Write(0x6F, 0x02),
+    Step::Write(0x81, 0x01),
+    Step::Pass(0, 2),
+    Step::Read(0x36, 0x02),
+    Step::Pending(Some(0x16)),
+    Step::Write(0x36, 0x05),
+    Step::Pending(Some(0x16)),
+    Step::Served(0x18),
+    Step::Pending(Some(0x16)),
+    Step::Served(0x16),
+    Step::Pending(None),
+    Step::Write(0x80, 0x02),
+    Step::Write(0x81, 0x19),
+    Step::Pass(0, 65536),
+    Step::Read(0x36, 0x07),
+];
+
 #[test]
-fn another_mode_begins_upwards(rt: HostRuntime) -> Result<(), Fail> {
-    let mut timers = Timers::new();
-    timers.write(TCCR0A, 1)?;
-    timers.write(TCNT0, 0xFE)?;
-    timers.write(TCCR0B, 1)?;
-    timers.pass(0, 3);
-    assert_eq!(rt; timers.read(TCNT0), 0xFD);
-    timers.write(TCNT0, 0x80)?;
-    timers.pass(3, 4);
-    assert_eq!(rt; timers.read(TCNT0), 0x7F);
-    timers.write(TCCR0A, 0)?;
-    timers.write(TCCR0A, 1)?;
-    timers.pass(4, 5);
-    assert_eq!(rt; timers.read(TCNT0), 0x80);
-    Ok(())
+fn timer1_by_bytes(rt: HostRuntime) {
+    take_steps(&rt, &mut Timers::new(), &TIMER1);
+}
+
+/// Timer 2 beside timer 0: each divides by its own prescaler.
+const TIMER2: [Step; 11] = [
+    Step::Write(0xB1, 3),
+    Step::Write(0x45, 3),
+    Step::Write(0xB3, 1),
+    Step::Write(0x70, 2),
+    Step::Pass(0, 63),
+    Step::Read(0xB2, 1),
+    Step::Read(0x46, 0),
+    Step::Pending(Some(0x0E)),
+    Step::Write(0xB1, 7),
+    Step::Pass(63, 1024),
+    Step::Read(0xB2, 2),
+];
+
+#[test]
+fn timer2_has_its_own_prescaler(rt: HostRuntime) {
+    take_steps(&rt, &mut Timers::default(), &TIMER2);
+}
+
+/// Writes that are stored, and writes that stop.
+const STOPS: [Step; 14] = [
+    Step::Write(0x45, 0xC8),
+    Step::Read(0x45, 0x08),
+    Step::Stop(0x45, 6, DeviceStop::ExternalClock { timer: 0 }),
+    Step::Stop(0x45, 9, DeviceStop::TimerMode { timer: 0, mode: 4 }),
+    Step::Stop(0x81, 0x11, DeviceStop::TimerMode { timer: 1, mode: 8 }),
+    Step::Stop(0x81, 0x17, DeviceStop::ExternalClock { timer: 1 }),
+    Step::Stop(0xB6, 0x20, DeviceStop::ExternalClock { timer: 2 }),
+    Step::Write(0xB0, 0x10),
+    Step::Stop(0xB1, 6, DeviceStop::WaveformPin { timer: 2 }),
+    Step::Write(0x45, 1),
+    Step::Write(0x44, 2),
+    Step::Stop(0x45, 9, DeviceStop::TimerMode { timer: 0, mode: 6 }),
+    Step::Stop(0x44, 0x40, DeviceStop::WaveformPin { timer: 0 }),
+    Step::Read(0x44, 2),
+];
+
+#[test]
+fn stops(rt: HostRuntime) {
+    take_steps(&rt, &mut Timers::new(), &STOPS);
+}
+
+/// Another mode of timer 0 begins upwards.
+const UPWARDS: [Step; 12] = [
+    Step::Write(TCCR0A, 1),
+    Step::Write(TCNT0, 0xFE),
+    Step::Write(TCCR0B, 1),
+    Step::Pass(0, 3),
+    Step::Read(TCNT0, 0xFD),
+    Step::Write(TCNT0, 0x80),
+    Step::Pass(3, 4),
+    Step::Read(TCNT0, 0x7F),
+    Step::Write(TCCR0A, 0),
+    Step::Write(TCCR0A, 1),
+    Step::Pass(4, 5),
+    Step::Read(TCNT0, 0x80),
+];
+
+#[test]
+fn another_mode_begins_upwards(rt: HostRuntime) {
+    take_steps(&rt, &mut Timers::new(), &UPWARDS);
 }
