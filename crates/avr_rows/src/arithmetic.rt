@@ -267,21 +267,19 @@ const PRODUCT_STATUS: [[u8; 6]; 10] = [
 #[test]
 fn sums_by_the_manual(rt: HostRuntime) {
     assert_eq!(rt; add(0x7F, 0x01, 0x00), (0x80, 0x2C));
-    for row in SUMS.iter() {
+    for (i, row) in SUMS.iter().enumerate() {
         let (a, b, sreg) = (row[0], row[1], row[2]);
-        assert_eq!(rt; add(a, b, sreg), (row[3], row[4]));
-        assert_eq!(rt; adc(a, b, sreg), (row[5], row[6]));
-        assert_eq!(rt; sub(a, b, sreg), (row[7], row[8]));
-        assert_eq!(rt; sbc(a, b, sreg), (row[9], row[10]));
+        let sums = add(a, b, sreg) == (row[3], row[4]) && adc(a, b, sreg) == (row[5], row[6]);
+        let rests = sub(a, b, sreg) == (row[7], row[8]) && sbc(a, b, sreg) == (row[9], row[10]);
+        assert!(rt; sums && rests, "row {i}: the sums are right: {sums}");
     }
 }
 
 #[test]
 fn logic_by_the_manual(rt: HostRuntime) {
     for &(a, b, sreg, both, either, one) in LOGIC.iter() {
-        assert_eq!(rt; bit_and(a, b, sreg), both);
-        assert_eq!(rt; bit_or(a, b, sreg), either);
-        assert_eq!(rt; bit_eor(a, b, sreg), one);
+        let same = bit_and(a, b, sreg) == both && bit_or(a, b, sreg) == either;
+        assert!(rt; same && bit_eor(a, b, sreg) == one, "at {a}, {b}, {sreg}");
     }
     assert_eq!(rt; swap(0x1F), 0xF1);
 }
@@ -290,41 +288,45 @@ fn logic_by_the_manual(rt: HostRuntime) {
 fn steps_by_the_manual(rt: HostRuntime) {
     for row in STEPS.iter() {
         let (a, sreg) = (row[0], row[1]);
-        assert_eq!(rt; com(a, sreg), (row[2], row[3]));
-        assert_eq!(rt; neg(a, sreg), (row[4], row[5]));
-        assert_eq!(rt; inc(a, sreg), (row[6], row[7]));
-        assert_eq!(rt; dec(a, sreg), (row[8], row[9]));
+        let turned = com(a, sreg) == (row[2], row[3]) && neg(a, sreg) == (row[4], row[5]);
+        let stepped = inc(a, sreg) == (row[6], row[7]) && dec(a, sreg) == (row[8], row[9]);
+        assert!(rt;
+            turned && stepped,
+            "at {a}, {sreg}: com and neg are right: {turned}"
+        );
     }
 }
 
 #[test]
 fn shifts_by_the_manual(rt: HostRuntime) {
     for &(a, sreg, arithmetic, logical, rotated) in SHIFTS.iter() {
-        assert_eq!(rt; asr(a, sreg), arithmetic);
-        assert_eq!(rt; lsr(a, sreg), logical);
-        assert_eq!(rt; ror(a, sreg), rotated);
+        let shifted = asr(a, sreg) == arithmetic && lsr(a, sreg) == logical;
+        assert!(rt; shifted && ror(a, sreg) == rotated, "at {a}, {sreg}");
     }
 }
 
 #[test]
 fn words_by_the_manual(rt: HostRuntime) {
     for &(pair, k, sreg, added, subtracted) in WORDS.iter() {
-        assert_eq!(rt; adiw(pair, k, sreg), added);
-        assert_eq!(rt; sbiw(pair, k, sreg), subtracted);
+        let same = adiw(pair, k, sreg) == added && sbiw(pair, k, sreg) == subtracted;
+        assert!(rt; same, "at {pair}, {k}, {sreg}");
     }
 }
 
 #[test]
 fn products_by_the_manual(rt: HostRuntime) {
-    for i in 0..10 {
-        let (a, b, sreg) = (OPERANDS[i][0], OPERANDS[i][1], OPERANDS[i][2]);
-        let (words, status) = (PRODUCTS[i], PRODUCT_STATUS[i]);
-        assert_eq!(rt; mul(a, b, sreg), (words[0], status[0]));
-        assert_eq!(rt; muls(a, b, sreg), (words[1], status[1]));
-        assert_eq!(rt; mulsu(a, b, sreg), (words[2], status[2]));
-        assert_eq!(rt; fmul(a, b, sreg), (words[3], status[3]));
-        assert_eq!(rt; fmuls(a, b, sreg), (words[4], status[4]));
-        assert_eq!(rt; fmulsu(a, b, sreg), (words[5], status[5]));
+    let results = PRODUCTS.iter().zip(PRODUCT_STATUS.iter());
+    for (&[a, b, sreg], (words, status)) in OPERANDS.iter().zip(results) {
+        let whole = mul(a, b, sreg) == (words[0], status[0])
+            && muls(a, b, sreg) == (words[1], status[1])
+            && mulsu(a, b, sreg) == (words[2], status[2]);
+        let fractional = fmul(a, b, sreg) == (words[3], status[3])
+            && fmuls(a, b, sreg) == (words[4], status[4])
+            && fmulsu(a, b, sreg) == (words[5], status[5]);
+        assert!(rt;
+            whole && fractional,
+            "at {a}, {b}: the whole products are right: {whole}"
+        );
     }
 }
 
