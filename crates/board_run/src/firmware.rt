@@ -21,7 +21,7 @@ const STEPS: u64 = 64;
 
 /// What cuts the firmware's side of a run.
 #[derive(Clone, Copy, Debug, PartialEq, Eq)]
-pub(crate) enum Cut {
+pub enum Cut {
     /// Its last step ended it.
     Step(FirmwareEnd),
     /// A printed byte could not be written.
@@ -30,15 +30,15 @@ pub(crate) enum Cut {
 
 /// The firmware's side under way.
 #[derive(Drop)]
-pub(crate) struct Firmware<'a, R, L: Links, G> {
+pub struct Firmware<'a, R, L: Links, G> {
     /// The microcontroller.
-    pub(crate) mcu: Mcu,
+    pub mcu: Mcu,
     /// Its bus.
-    pub(crate) wire: Wire<'a, R, L, G>,
+    pub wire: Wire<'a, R, L, G>,
     /// How many cycles it may take.
-    pub(crate) cycles: u64,
+    pub cycles: u64,
     /// The last byte that it printed.
-    pub(crate) last: Option<u8>,
+    pub last: Option<u8>,
 }
 
 impl<'a, R: Wait, L: Links, G: Gate> Firmware<'a, R, L, G> {

@@ -1,12 +1,11 @@
 //! Live runs: the firmware on the board in the caller's thread, and its links in a thread of their own, which take turns at the chip.
 //!
 //! [`live::live`] makes the run, and `specs/Lives` says what it leaves: one history, on whose answers the firmware ran.
+//! The firmware's side is public for the rows above alone: where no thread can be started, `run_alone` serves the links too.
 #![tactic(auto)]
 
 mod ending;
-mod firmware;
+pub mod firmware;
 pub mod live;
-#[cfg(test)]
-mod tests;
-mod threads;
-mod wire;
+pub mod threads;
+pub mod wire;

@@ -25,19 +25,19 @@ use wz_base::Sink;
 
 /// What the firmware's side leaves.
 #[derive(Drop)]
-pub(crate) struct Ran<'a, L: Links, K> {
+pub struct Ran<'a, L: Links, K> {
     /// The microcontroller.
-    pub(crate) mcu: Mcu,
+    pub mcu: Mcu,
     /// Its pass, which has ended.
-    pub(crate) pass: Pass<L>,
+    pub pass: Pass<L>,
     /// The first event that got no answer.
-    pub(crate) refused: Option<Unanswered>,
+    pub refused: Option<Unanswered>,
     /// The last byte that it printed.
-    pub(crate) last: Option<u8>,
+    pub last: Option<u8>,
     /// What cut it.
-    pub(crate) cut: Cut,
+    pub cut: Cut,
     /// Where it printed.
-    pub(crate) out: &'a mut K,
+    pub out: &'a mut K,
 }
 
 /// What the side of the links leaves.
@@ -102,11 +102,7 @@ impl<'a, R: Wait, L: Links, G: Gate> Firmware<'a, R, L, G> {
     }
 
     /// Runs it on one thread, with sweeps of the links between its steps.
-    pub(crate) fn run_alone<'b, K: Sink>(
-        mut self,
-        links: &mut Pass<L>,
-        out: &'b mut K,
-    ) -> Ran<'b, L, K>
+    pub fn run_alone<'b, K: Sink>(mut self, links: &mut Pass<L>, out: &'b mut K) -> Ran<'b, L, K>
         requires ready { IsReady self.cycles self.mcu }
         requires limit { self.cycles ≤ 2 ^ 63 }
         requires turn { links.old.turn ≡ self.wire.turn }

@@ -19,16 +19,16 @@ use std::sync::Wait;
 
 /// An event of the bus that got no answer, and the cause with which the turns ended.
 #[derive(Clone, Copy, Debug, PartialEq, Eq)]
-pub(crate) struct Unanswered {
+pub struct Unanswered {
     /// The event.
-    pub(crate) event: BusEvent,
+    pub event: BusEvent,
     /// Why the turns ended.
-    pub(crate) why: Over,
+    pub why: Over,
 }
 
 /// The turns, the firmware's pass, and the first event that got no answer.
 #[derive(Drop)]
-pub(crate) struct Wire<'a, R, L: Links, G> {
+pub struct Wire<'a, R, L: Links, G> {
     rt: &'a R,
     turn: &'a Turn<L>,
     gate: &'a G,
@@ -48,7 +48,7 @@ impl<'a, R, L: Links, G> Model for Wire<'a, R, L, G> {
 
 impl<'a, R: Wait, L: Links, G: Gate> Wire<'a, R, L, G> {
     /// The firmware's bus before the first event.
-    pub(crate) fn new(rt: &'a R, turn: &'a Turn<L>, gate: &'a G, pass: Pass<L>) -> Wire<'a, R, L, G>
+    pub fn new(rt: &'a R, turn: &'a Turn<L>, gate: &'a G, pass: Pass<L>) -> Wire<'a, R, L, G>
         requires first { IsFirst turn.now pass }
         ensures { result ≡ record { turn = turn.entry.now; pass = pass; refused = None } }
     {
