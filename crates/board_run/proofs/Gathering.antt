@@ -64,21 +64,22 @@ stops_never a b now (Some s) none none' owned = by (owned s refl)
     by (inr it) = found_none s b.found b.gave none' it
 
 -- A stop that the first pass found, at this event.
-found_there : (starts : Starts) (past : Past) (found : Option Found) (f : Found) (c : BusEvent) (s : ChipStop) → WereFound starts past found → found ≡ Some f → f.stop ≡ s → f.event ≡ c
-    → StopsThere starts past c s
-found_there starts past found f c s were is stop_is event_is =
+found_there : (starts : Starts) (limit : ℕ) (past : Past) (found : Option Found) (f : Found) (c : BusEvent) (s : ChipStop) → WereFound starts limit past found → found ≡ Some f → f.stop ≡ s → f.event ≡ c
+    → StopsThere starts limit past c s
+found_there starts limit past found f c s were is stop_is event_is =
     let it = were f is in
     record {
       before = it.before;
       rests = suc it.more;
       since = it.since;
-      stops = subst (λ (e : BusEvent). stop starts it.before e ≡ Some s) event_is (it.stops ∙ ap Some stop_is);
+      room = it.here.room;
+      stops = subst (λ (e : BusEvent). stop starts it.before e ≡ Some s) event_is (it.here.stops ∙ ap Some stop_is);
     }
 
 -- Where the first pass ended with this cause at this event, the cause has its reason.
 caused_by : {L : Type 0} (why : Over) (c : BusEvent) (a b : PassView) (now : State L) (before after : ℕ) → a.ended ≡ Some why → ((f : Found) → a.found ≡ Some f → f.event ≡ c) → a.gave ≡ None
     → IsQuietOther b → Closes a b now → OnlyFault before after b.gave → IsOfOne a b why → CausedBy why now c before after
-caused_by (Stopped s) c a b now before after ended found gave quiet closes only (inl it) = found_there now.starts now.log.past a.found it.0 c s closes.found it.1 it.2 (found it.0 it.1)
+caused_by (Stopped s) c a b now before after ended found gave quiet closes only (inl it) = found_there now.starts now.log.limit now.log.past a.found it.0 c s closes.found it.1 it.2 (found it.0 it.1)
 caused_by (Stopped s) c a b now before after ended found gave quiet closes only (inr it) = found_none s b.found b.gave quiet.unfound it
 caused_by TraceFull c a b now before after ended found gave quiet closes only owned = closes.full (inl ended)
 caused_by NoMemory c a b now before after ended found gave quiet closes only owned = tt

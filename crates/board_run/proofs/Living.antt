@@ -43,6 +43,7 @@ use Rattle.board_run.specs.declared.wire.Unanswered.{Unanswered}
 use Rattle.board_run.specs.Wires.{IsFirst, told_by, wanted_of}
 use Rattle.board_run.specs.Sides.{IsQuietOther, OnlyFault}
 use Rattle.board_run.specs.Going.{Goes, ToByte, WalkedToEnd, WalkedToByte}
+use Rattle.board_run.specs.Printing.{PrintsLast}
 use Rattle.board_run.specs.Ran.{RanTo, side}
 use Rattle.board_run.specs.Leaving.{Begins, Leaves}
 use Rattle.board_run.specs.Closing.{CausedBy, ClosesTo, EndedFor, EndsWith, IsOver, StallsOnly}
@@ -95,9 +96,11 @@ room_on : {L : Type 0} (f : Fixed) (now : State L) → On f now → is_full_at f
 room_on f now on room =
     subst (λ (n : ℕ). is_full_at n now.log.past ≡ false) (sym on.limit) (subst (λ (p : Past). is_full_at f.setup.events p ≡ false) on.past room)
 
-stops_on : {L : Type 0} (f : Fixed) (now : State L) (c : BusEvent) (s : ChipStop) → On f now → StopsThere now.starts now.log.past c s → StopsThere (starts_of f.setup) f.past c s
+stops_on : {L : Type 0} (f : Fixed) (now : State L) (c : BusEvent) (s : ChipStop) → On f now → StopsThere now.starts now.log.limit now.log.past c s
+    → StopsThere (starts_of f.setup) f.setup.events f.past c s
 stops_on f now c s on it =
-    subst (λ (p : Past). StopsThere (starts_of f.setup) p c s) (sym on.past) (subst (λ (x : Starts). StopsThere x now.log.past c s) on.starts it)
+    subst (λ (p : Past). StopsThere (starts_of f.setup) f.setup.events p c s) (sym on.past)
+    (subst (λ (x : Starts × ℕ). StopsThere x.0 x.1 now.log.past c s) (λ j. (on.starts j, on.limit j)) it)
 
 -- Why the run ended so, where an event got no answer.
 comes_for : {L : Type 0} (f : Fixed) (now : State L) (why : Over) (c : BusEvent) (end : RunEnd) (real : firmware.RunEnd) → On f now → real ≡ firmwares.Wants c → EndedFor why end
@@ -266,6 +269,7 @@ byte_lives image setup before left mcu told first old mid text same cycles far w
       state = mcu;
       wanted = told.wanted;
       comes = subst (ComesTo setup.cycles (reset_state image) (walked.bytes ++ walked.byte ∷ []) mcu) (told_matches left told same) come;
+      last = subst (PrintsLast setup.cycles (reset_state image) walked.bytes walked.byte mcu) (told_matches left told same) (walked.last (reset_state image) [] far);
       cycles = cycles;
       wrote = subst (Appends old.written walked.bytes) (sym wrote) walked.prints.wrote;
     }))

@@ -23,7 +23,7 @@ use Rattle.board_run.specs.Sides.{OnlyFault}
 
 -- Why an event got no answer, over a poller of which so many waits had failed and have failed now. That the run was over is no cause.
 abbrev pub CausedBy : {L : Type 0} → Over → State L → BusEvent → ℕ → ℕ → Type 0
-CausedBy (Stopped s) now c before after = StopsThere now.starts now.log.past c s
+CausedBy (Stopped s) now c before after = StopsThere now.starts now.log.limit now.log.past c s
 CausedBy TraceFull now c before after = is_full now.log ≡ true
 CausedBy NoMemory now c before after = Unit {0}
 CausedBy PollFault now c before after = Rose before after

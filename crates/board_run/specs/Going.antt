@@ -5,6 +5,7 @@ use Rattle.avr_mcu.specs.State.{McuState, printed}
 use Rattle.avr_mcu.specs.declared.run.RunEnd as firmware
 use Rattle.avr_run.specs.Told.{Told, SoFar, Ended}
 use Rattle.board_sim.specs.Playing.{Printed, Prints}
+use Rattle.board_run.specs.Printing.{PrintsLast}
 use Rattle.board_run.specs.declared.firmware.Cut.{Cut}
 use Rattle.board_run.specs.declared.firmware.Cut.TheVariants as cuts
 
@@ -34,12 +35,18 @@ pub record WalkedToEnd (cycles : ℕ) (end : firmware.RunEnd) (s : McuState) (to
   pub prints : Prints old bytes new
   pub to_end : ToEnd cycles bytes end s told now told'
 
+-- From any run that has come so far, with these bytes printed since, the last step printed this one.
+abbrev pub EndsAtByte : ℕ → List ℕ → ℕ → McuState → Told → McuState → Told → Type 0
+EndsAtByte cycles bytes byte s told now told' =
+    (start : McuState) (serial : List ℕ) → SoFar cycles start serial s told → PrintsLast cycles start (serial ++ bytes) byte now told'
+
 -- Some steps, the last of which printed a byte that could not be written.
 pub record WalkedToByte (cycles : ℕ) (s : McuState) (told : Told) (now : McuState) (told' : Told) (old new : Printed) : Type 0 where
   pub bytes : List ℕ
   pub byte : ℕ
   pub prints : Prints old bytes new
   pub to_byte : ToByte cycles (bytes ++ byte ∷ []) s told now told'
+  pub last : EndsAtByte cycles bytes byte s told now told'
 
 -- By whether the run goes on, and what cut it.
 abbrev pub Goes : Option Cut → ℕ → McuState → Told → McuState → Told → Printed → Printed → Type 0

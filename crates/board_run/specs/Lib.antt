@@ -1,5 +1,6 @@
 pub mod Wires
 pub mod Sides
+pub mod Printing
 pub mod Going
 pub mod Ran
 pub mod Closing

@@ -23,6 +23,7 @@ use Rattle.board_sim.specs.Boards.{is_full_at}
 use Rattle.board_sim.specs.Ends.{starts_of}
 use Rattle.board_sim.specs.Exchanges.{asked_of, answers_of}
 use Rattle.board_sim.specs.Report.{last_behind, report_of}
+use Rattle.board_run.specs.Printing.{PrintsLast}
 use Rattle.board_run.specs.declared.live.LiveEnd.{LiveEnd}
 use Rattle.board_sim.specs.declared.end.RunEnd.{RunEnd}
 use Rattle.board_sim.specs.declared.end.RunEnd.TheVariants as ends
@@ -46,21 +47,23 @@ live_report image setup past end =
     let ran = firmware_run image setup past in
     report_of (starts_of setup) past (last_behind None ran.serial) ran.cycles ran.trail end
 
--- The event has this stop after some past; since then nothing happened.
-pub record StopsThere (starts : Starts) (past : Past) (c : BusEvent) (s : ChipStop) : Type 0 where
+-- The event has this stop after some past, at which a history that is meant to hold so much was not full. Since then nothing
+-- happened.
+pub record StopsThere (starts : Starts) (events : ℕ) (past : Past) (c : BusEvent) (s : ChipStop) : Type 0 where
   pub before : Past
   pub rests : ℕ
   pub since : past ≡ rested rests before
+  pub room : is_full_at events before ≡ false
   pub stops : stop starts before c ≡ Some s
 
--- Why a run ended so, by the firmware's end: an end of its own; or it wants one more event, which got no answer since the chip stops at
--- it, the history is full, or a wait of the poller failed.
+-- Why a run ended so, by the firmware's end: an end of its own; or it wants one more event, which got no answer since the chip
+-- stops at it while the history is not full, the history is full, or a wait of the poller failed.
 abbrev pub ComesBy : RunEnd → Setup → Past → firmware.RunEnd → ℕ → ℕ → Type 0
 ComesBy ends.Break setup past end before now = end ≡ firmwares.Break
 ComesBy ends.Sleep setup past end before now = end ≡ firmwares.Sleep
 ComesBy ends.CycleLimit setup past end before now = end ≡ firmwares.CycleLimit
 ComesBy (ends.Avr why) setup past end before now = end ≡ firmwares.Stop why
-ComesBy (ends.Chip why) setup past end before now = (c : BusEvent) × ((end ≡ firmwares.Wants c) × StopsThere (starts_of setup) past c why)
+ComesBy (ends.Chip why) setup past end before now = (c : BusEvent) × ((end ≡ firmwares.Wants c) × StopsThere (starts_of setup) setup.events past c why)
 ComesBy ends.TraceFull setup past end before now = (c : BusEvent) × ((end ≡ firmwares.Wants c) × (is_full_at setup.events past ≡ true))
 ComesBy ends.PollFault setup past end before now = (c : BusEvent) × ((end ≡ firmwares.Wants c) × Rose before now)
 ComesBy ends.WriteFault setup past end before now = ⊥
@@ -92,14 +95,15 @@ pub record StopsAtReport (image : List ℕ) (setup : Setup) (before : ℕ) (left
 abbrev pub ComesTo : ℕ → McuState → List ℕ → McuState → Told → Type 0
 ComesTo cycles start serial now told = SoFar cycles start serial now told ⊎ ((end : firmware.RunEnd) × Ended cycles start serial now told end)
 
--- A serial byte could not be written: the firmware stands behind the step that printed it, what was written is all that was printed before
--- it, and the history's events of the bus are those that the steps so far asked.
+-- A serial byte could not be written: the firmware stands behind the step that printed it (`last`), what was written is all that
+-- was printed before it, and the history's events of the bus are those that the steps up to that one asked.
 pub record StopsAtByte (image : List ℕ) (setup : Setup) (left : Left) (old new : Option (List ℕ)) : Type 0 where
   pub serial : List ℕ
   pub byte : ℕ
   pub state : McuState
   pub wanted : Option BusEvent
   pub comes : ComesTo setup.cycles (reset_state image) (serial ++ byte ∷ []) state (record { asked = asked_of left.past; answers = answers_of left.past; wanted = wanted })
+  pub last : PrintsLast setup.cycles (reset_state image) serial byte state (record { asked = asked_of left.past; answers = answers_of left.past; wanted = wanted })
   pub cycles : left.cycles ≡ state.devices.cycles
   pub wrote : Appends old serial new
 

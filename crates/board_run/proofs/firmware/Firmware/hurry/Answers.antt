@@ -1,5 +1,6 @@
 use Rattle.board_sim.specs.Playing.{printing}
 use Rattle.board_run.specs.Wires.{told_of}
+use Rattle.board_run.proofs.Printing.{stretch_prints}
 use Rattle.board_run.proofs.Walking.{settled_goes}
 use Rattle.board_run.proofs.firmware.Firmware.hurry.Goals as goal
 
@@ -11,4 +12,5 @@ returns-clause-goes g c =
     let wire = c.args.self.now.wire in
     settled_goes c.settle.result made.result.byte made.result.end c.args.self.now.cycles c.args.self.now.mcu made.new.mcu c.settle.new.self.mcu (told_of wire) wire c.settle.new.self.wire old new
     (λ on start serial so. made.ensures.goes on start serial (told_of wire) so) (λ e is start serial so. made.ensures.ends e is start serial (told_of wire) so)
+    (stretch_prints c.args.self.now.cycles c.args.self.now.mcu made.new.mcu made.result.steps made.result.byte made.result.end (told_of wire) c.requires.ready.below made.ensures.stretch)
     c.settle.ensures.mcu c.settle.ensures.wire c.settle.ensures.settles
