@@ -52,9 +52,9 @@ abbrev pub board_end : BoardCommand → Result (List ℕ × Setup) LoadError →
 board_end what (Ok both) = both_end what both.0 both.1
 board_end what (Err error) = unloaded_end error
 
--- The chip stops at an event of the bus, behind all that happened.
+-- The chip stops at an event of the bus, behind all that happened, where the history is not full.
 abbrev pub StopsAt : Setup → Past → BusEvent → EndKind → Type 0
-StopsAt setup past c end = (why : ChipStop) × ((end ≡ Chip why) × StopsThere (starts_of setup) past c why)
+StopsAt setup past c end = (why : ChipStop) × ((end ≡ Chip why) × StopsThere (starts_of setup) setup.events past c why)
 
 -- The history is full.
 abbrev pub IsFullAt : Setup → Past → EndKind → Type 0
