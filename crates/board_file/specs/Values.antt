@@ -43,12 +43,16 @@ items value = option_map list_of (as_array value)
 abbrev pub all_of : {A : Type 0} → (Data → Option A) → Data → Option (List A)
 all_of kind_of value = option_and_then (each kind_of) (items value)
 
+-- A list of at most so many values of one kind, each of which is then read.
+abbrev pub listed : {A B : Type 0} → (Data → Option A) → (A → Option B) → KeyKind → ℕ → Data → Result (List B) KeyKind
+listed kind_of read fault many value = do
+  found ← ok_or (all_of kind_of value) WrongType
+  counted ← few many found
+  ok_or (each read counted) fault
+
 -- At most so many numbers of this range.
 abbrev pub numbers : ℕ → ℕ → ℕ → Data → Result (List ℕ) KeyKind
-numbers many least most value = do
-  found ← ok_or (all_of as_integer value) WrongType
-  counted ← few many found
-  ok_or (each (ranged least most) counted) OutOfRange
+numbers many least most = listed as_integer (ranged least most) OutOfRange many
 
 -- Exactly so many numbers of this range.
 abbrev pub numbers_beside : ℕ → ℕ → ℕ → Data → Result (List ℕ) KeyKind
@@ -66,10 +70,7 @@ chunk most written = option_and_then (no_longer most) (bytes written)
 
 -- At most so many texts, each of at most so many bytes as hexadecimal digits.
 abbrev pub chunks : ℕ → ℕ → Data → Result (List (List ℕ)) KeyKind
-chunks many most value = do
-  found ← ok_or (all_of as_str value) WrongType
-  counted ← few many found
-  ok_or (each (chunk most) counted) BadText
+chunks many most = listed as_str (chunk most) BadText many
 
 -- A key that has to be there.
 abbrev pub required : {A : Type 0} → (Data → Result A KeyKind) → Option Data → Result A KeyKind

@@ -1,14 +1,25 @@
 -- What the program's values say, as the definitions of board files have them.
-use Rattle.std.specs.Prelude.{◌≡◌, ℕ, List, map, Result, Ok, Err, Vec, String}
+use Rattle.std.specs.Prelude.{◌≡◌, ℕ, List, map, Option, Some, IsSome, option_and_then, Result, Ok, Err, Vec, String}
 use Rattle.std.specs.BTreeMap.{BTreeMap}
 use Rattle.std.specs.Borrow.{Bor}
 use Rattle.std.specs.declared.alloc.Global.{Global}
-use Rattle.toml.specs.Data.{Members}
+use Rattle.toml.specs.Data.{Data, Members}
 use Rattle.toml.specs.View.{table_view}
 use Rattle.toml.specs.declared.value.Value.{Value}
+use Rattle.board_read.specs.Lists.{each}
+use Rattle.board_file.specs.Values.{items}
 use Rattle.board_file.specs.declared.fault.BoardFault.{BoardFault}
 use Rattle.board_file.specs.declared.fault.BoardError.{BoardError}
 use Rattle.board_file.specs.declared.fault.BoardError.TheVariants.{Fault, NoMemory}
+
+-- What a second reading makes of what a first one gives.
+abbrev pub both : {A B C : Type 0} → (B → Option C) → (A → Option B) → A → Option C
+both second first x = option_and_then second (first x)
+
+-- These are the items of an array, of each of which something is read.
+pub record IsArrayOf {A : Type 0} (kind_of : Data → Option A) (xs : List Data) (value : Data) : Type 0 where
+  pub is : items value ≡ Some xs
+  pub each : IsSome (each kind_of xs)
 
 -- The tables that these references show.
 abbrev pub tables : List (Bor (BTreeMap (String Global) Value)) → List Members

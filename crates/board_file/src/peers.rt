@@ -12,7 +12,7 @@ use crate::fault::{BoardError, BoardFault, Key, KeyKind, fault};
 use crate::lookup::{faulted, only_known, value_at};
 use crate::rows::{NumberRow, addr, number_or, port};
 use crate::tables::tables_at;
-use crate::values::{all_chunks, all_ranged, integers, number, texts};
+use crate::values::{are_within, chunks, integers, number, numbers, texts};
 use link_script::{Chunk, Connects, Peer, PeerKind};
 use link_trait::Addr;
 use std::alloc::{AllocError, Global};
@@ -123,55 +123,68 @@ fn connect(table: &Table, kind: PeerKind, entry: u32) -> Result<Connects, BoardF
     }
 }
 
+// At most 4096 numbers.
+#[tactic(auto, using(crate::proofs::Judging::listed_wrong))]
 fn takes(alloc: Global, table: &Table, entry: u32) -> Result<Vec<u32>, BoardError>
     ensures { Gives (λ v. v.items) result (takes_row entry (table_view table.now)) }
 {
     let Some(value) = value_at(table, Key::Takes) else {
         return Ok(Vec::new(alloc));
     };
-    let Some(numbers) = integers(alloc, value)? else {
+    let Some(items) = integers(value) else {
         return Err(fault(Key::Takes, entry, KeyKind::WrongType));
     };
-    if numbers.len() > 4_096 {
+    if items.len() > 4_096 {
         return Err(fault(Key::Takes, entry, KeyKind::OutOfRange));
     }
-    match all_ranged(alloc, &numbers, 65_536)? {
+    match numbers(alloc, items, 65_536)? {
         Some(takes) => Ok(takes),
         None => Err(fault(Key::Takes, entry, KeyKind::OutOfRange)),
     }
 }
 
+// At most 256 chunks.
+#[tactic(auto, using(crate::proofs::Judging::listed_wrong))]
 fn say(alloc: Global, table: &Table, entry: u32) -> Result<Vec<Vec<u8>>, BoardError>
     ensures { Gives (λ v. bytes_of v.items) result (say_row entry (table_view table.now)) }
 {
     let Some(value) = value_at(table, Key::Say) else {
         return Ok(Vec::new(alloc));
     };
-    let Some(written) = texts(alloc, value)? else {
+    let Some(items) = texts(value) else {
         return Err(fault(Key::Say, entry, KeyKind::WrongType));
     };
-    if written.len() > 256 {
+    if items.len() > 256 {
         return Err(fault(Key::Say, entry, KeyKind::OutOfRange));
     }
-    match all_chunks(alloc, &written, 65_536)? {
+    match chunks(alloc, items, 65_536)? {
         Some(chunks) => Ok(chunks),
         None => Err(fault(Key::Say, entry, KeyKind::BadText)),
     }
 }
 
+// The most that a number of `after` may be.
+const AFTER_MOST: u32 = 16_777_216;
+
 // One number for each of so many chunks.
+#[tactic(auto, using(crate::proofs::Judging::beside_wrong))]
 fn after(alloc: Global, table: &Table, many: usize, entry: u32) -> Result<Vec<u32>, BoardError>
     ensures { Gives (λ v. v.items) result (after_row many entry (table_view table.now)) }
 {
     let Some(value) = value_at(table, Key::After) else {
         return Ok(vec![in alloc; 0; many]?);
     };
-    let Some(numbers) = integers(alloc, value)? else {
+    let Some(items) = integers(value) else {
         return Err(fault(Key::After, entry, KeyKind::WrongType));
     };
-    match all_ranged(alloc, &numbers, 16_777_216)? {
-        Some(afters) if afters.len() == many => Ok(afters),
-        Some(_) => Err(fault(Key::After, entry, KeyKind::BadText)),
+    if !are_within(items, AFTER_MOST) {
+        return Err(fault(Key::After, entry, KeyKind::OutOfRange));
+    }
+    if items.len() != many {
+        return Err(fault(Key::After, entry, KeyKind::BadText));
+    }
+    match numbers(alloc, items, AFTER_MOST)? {
+        Some(afters) => Ok(afters),
         None => Err(fault(Key::After, entry, KeyKind::OutOfRange)),
     }
 }

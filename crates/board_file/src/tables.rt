@@ -1,6 +1,7 @@
 // Arrays of tables, and the entries of `listen` and `route`.
-ghost use Rattle.std.specs.Prelude.{◌≡◌, ◌≤◌, [], map, length, IfOk, OnOk};
-ghost use Rattle.toml.specs.Data.{get_member};
+ghost use Rattle.std.specs.Prelude.{◌≡◌, ◌≤◌, [], map, length, is_some, IfOk, OnOk};
+ghost use Rattle.std.specs.List.{list_all};
+ghost use Rattle.toml.specs.Data.{as_table, get_member};
 ghost use Rattle.toml.specs.View.{view, table_view};
 ghost use Rattle.board_file.specs.declared.fault.Key.TheVariants.{Listen, Route};
 ghost use Rattle.board_file.specs.Keys.{word};
@@ -36,7 +37,14 @@ fn table_list(alloc: Global, items: &[Value], key: Key) -> Result<Vec<&Table>, B
     Ok(tables)
 }
 
-/// The tables of a key, which may be left out.
+// Whether each of these is a table.
+fn are_tables(items: &[Value]) -> bool
+    ensures { result ≡ list_all (λ item. is_some (as_table (view item))) items.now }
+{
+    items.iter().all(|item| item.as_table().is_some())
+}
+
+/// The tables of a key, which may be left out. Where there are too many, no list of them is made.
 ///
 /// # Errors
 ///
@@ -51,6 +59,9 @@ pub fn tables_at(alloc: Global, file: &Table, key: Key) -> Result<Vec<&Table>, B
     let Some(entries) = items(value) else {
         return Err(fault(key, 0, KeyKind::WrongType));
     };
+    if entries.len() > 64 && are_tables(entries) {
+        return Err(fault(key, 0, KeyKind::OutOfRange));
+    }
     match table_list(alloc, entries, key) {
         Ok(tables) if tables.len() <= 64 => Ok(tables),
         Ok(_) => Err(fault(key, 0, KeyKind::OutOfRange)),

@@ -1,11 +1,11 @@
 // What the value of a key says, or what is wrong with it.
-ghost use Rattle.std.specs.Prelude.{◌≡◌, ◌≤◌, ◌<◌, ◌^◌, IfOk, IfSome, option_map, map};
+ghost use Rattle.std.specs.Prelude.{◌≡◌, ◌≤◌, None, IfOk, IfSome, MatchOption, is_some, option_map, map};
+ghost use Rattle.std.specs.List.{list_all};
 ghost use Rattle.toml.specs.Data.{as_integer, as_str};
 ghost use Rattle.toml.specs.View.{view};
 ghost use Rattle.board_read.specs.Lists.{each};
-ghost use Rattle.board_read.specs.Texts.{texts};
 ghost use Rattle.board_file.specs.Values.{ranged, number, items, all_of, chunk};
-ghost use Rattle.board_file.specs.Views.{bytes_of};
+ghost use Rattle.board_file.specs.Views.{IsArrayOf, both, bytes_of};
 
 use crate::fault::KeyKind;
 use std::alloc::{AllocError, Global};
@@ -51,46 +51,57 @@ pub fn items(value: &Value) -> Option<&[Value]>
     }
 }
 
-/// The whole numbers of an array, where it has nothing else.
-///
-/// # Errors
-///
-/// Want of memory alone.
-pub fn integers(alloc: Global, value: &Value) -> Result<Option<Vec<i64>>, AllocError>
-    ensures { IfOk result (λ v. option_map (λ v. v.items) v ≡ all_of as_integer (view value.now)) }
+// Whether each of these is a whole number.
+fn are_integers(items: &[Value]) -> bool
+    ensures { result ≡ list_all (λ item. is_some (as_integer (view item))) items.now }
 {
-    let Some(items) = items(value) else {
-        return Ok(None);
-    };
-    let mut numbers = Vec::new(alloc);
-    for item in items {
-        match item.as_integer() {
-            Some(z) => numbers.push(z)?,
-            None => return Ok(None),
-        }
-    }
-    Ok(Some(numbers))
+    items.iter().all(|item| item.as_integer().is_some())
 }
 
-/// The texts of an array, where it has nothing else.
-///
-/// # Errors
-///
-/// Want of memory alone.
-pub fn texts(alloc: Global, value: &Value) -> Result<Option<Vec<&str>>, AllocError>
-    ensures { IfOk result (λ v. option_map (λ v. texts v.items) v ≡ all_of as_str (view value.now)) }
+// Whether each of these is a text.
+fn are_texts(items: &[Value]) -> bool
+    ensures { result ≡ list_all (λ item. is_some (as_str (view item))) items.now }
 {
-    let Some(items) = items(value) else {
-        return Ok(None);
-    };
-    let mut texts = Vec::new(alloc);
-    for item in items {
-        match item.as_str() {
-            Some(text) => texts.push(text)?,
-            None => return Ok(None),
-        }
+    items.iter().all(|item| item.as_str().is_some())
+}
+
+/// The items of an array of whole numbers, where a value is one. No list of the numbers is made.
+#[tactic(auto, using(crate::proofs::Judging::each_is, crate::proofs::Judging::each_is_none))]
+pub fn integers(value: &Value) -> Option<&[Value]>
+    ensures { MatchOption result (all_of as_integer (view value.now) ≡ None) (λ v. IsArrayOf as_integer (map view v.now) (view value.now)) }
+{
+    let items = items(value)?;
+    if are_integers(items) {
+        Some(items)
+    } else {
+        None
     }
-    Ok(Some(texts))
+}
+
+/// The items of an array of texts, where a value is one. No list of the texts is made.
+#[tactic(auto, using(crate::proofs::Judging::each_is, crate::proofs::Judging::each_is_none))]
+pub fn texts(value: &Value) -> Option<&[Value]>
+    ensures { MatchOption result (all_of as_str (view value.now) ≡ None) (λ v. IsArrayOf as_str (map view v.now) (view value.now)) }
+{
+    let items = items(value)?;
+    if are_texts(items) { Some(items) } else { None }
+}
+
+// The number of at most `most` that a value is.
+fn number_within(value: &Value, most: u32) -> Option<u32>
+    ensures { result ≡ both (ranged 0 most) as_integer (view value.now) }
+{
+    match ranged(value.as_integer()?, 0, u64::from(most)) {
+        Some(n) => Some(n as u32),
+        None => None,
+    }
+}
+
+/// Whether each of these is a number of at most `most`.
+pub fn are_within(items: &[Value], most: u32) -> bool
+    ensures { result ≡ list_all (λ item. is_some (both (ranged 0 most) as_integer (view item))) items.now }
+{
+    items.iter().all(|item| number_within(item, most).is_some())
 }
 
 /// These numbers, where each is at most `most`.
@@ -98,13 +109,13 @@ pub fn texts(alloc: Global, value: &Value) -> Result<Option<Vec<&str>>, AllocErr
 /// # Errors
 ///
 /// Want of memory alone.
-pub fn all_ranged(alloc: Global, zs: &[i64], most: u32) -> Result<Option<Vec<u32>>, AllocError>
-    ensures { IfOk result (λ v. option_map (λ v. v.items) v ≡ each (ranged 0 most) zs.now) }
+pub fn numbers(alloc: Global, items: &[Value], most: u32) -> Result<Option<Vec<u32>>, AllocError>
+    ensures { IfOk result (λ v. option_map (λ v. v.items) v ≡ each (both (ranged 0 most) as_integer) (map view items.now)) }
 {
     let mut numbers = Vec::new(alloc);
-    for z in zs {
-        match ranged(*z, 0, u64::from(most)) {
-            Some(n) => numbers.push(n as u32)?,
+    for item in items {
+        match number_within(item, most) {
+            Some(n) => numbers.push(n)?,
             None => return Ok(None),
         }
     }
@@ -121,21 +132,31 @@ fn chunk(alloc: Global, text: &str, most: usize) -> Result<Option<Vec<u8>>, Allo
     }
 }
 
+// The bytes of a value that is a text of hexadecimal digits, at most so many.
+fn chunk_in(alloc: Global, value: &Value, most: usize) -> Result<Option<Vec<u8>>, AllocError>
+    ensures { IfOk result (λ v. option_map (λ b. b.items) v ≡ both (chunk most) as_str (view value.now)) }
+{
+    match value.as_str() {
+        Some(text) => chunk(alloc, text, most),
+        None => Ok(None),
+    }
+}
+
 /// The bytes of each of these texts, where each is at most so many as hexadecimal digits.
 ///
 /// # Errors
 ///
 /// Want of memory alone.
-pub fn all_chunks(
+pub fn chunks(
     alloc: Global,
-    written: &[&str],
+    items: &[Value],
     most: usize,
 ) -> Result<Option<Vec<Vec<u8>>>, AllocError>
-    ensures { IfOk result (λ v. option_map (λ v. bytes_of v.items) v ≡ each (chunk most) (texts written.now)) }
+    ensures { IfOk result (λ v. option_map (λ v. bytes_of v.items) v ≡ each (both (chunk most) as_str) (map view items.now)) }
 {
     let mut chunks = Vec::new(alloc);
-    for text in written {
-        match chunk(alloc, text, most)? {
+    for item in items {
+        match chunk_in(alloc, item, most)? {
             Some(bytes) => chunks.push(bytes)?,
             None => return Ok(None),
         }
