@@ -252,7 +252,7 @@ fn peer(alloc: Global, table: &Table, entry: u32) -> Result<Peer, BoardError>
     ensures { Gives (λ script. script) result (peer entry (table_view table.now)) }
 {
     let kind = kind(table, entry)?;
-    let ip = addr(alloc, table, entry)?;
+    let ip = addr(table, entry)?;
     let port = port(table, Key::Port, entry)?;
     let chip = chip(table, kind, entry)?;
     let connect = connect(table, kind, entry)?;

@@ -3,14 +3,11 @@ ghost use Rattle.std.specs.Prelude.{◌≡◌, ◌≤◌, IfOk};
 ghost use Rattle.toml.specs.View.{view, table_view};
 ghost use Rattle.board_read.specs.Numbers.{address};
 ghost use Rattle.board_file.specs.Rows.{number_or, port, addr_row, route_host_row};
-ghost use Rattle.board_file.specs.Judged.{faulted};
 ghost use Rattle.board_file.specs.Values.{text};
-ghost use Rattle.board_file.specs.Views.{Gives};
 
-use crate::fault::{BoardError, BoardFault, Key, KeyKind, fault};
+use crate::fault::{BoardFault, Key, KeyKind};
 use crate::lookup::{faulted, value_at};
 use crate::values::number;
-use std::alloc::Global;
 use toml::{Table, Value};
 
 /// A number that may be left out.
@@ -63,15 +60,12 @@ pub fn port(table: &Table, key: Key, entry: u32) -> Result<u16, BoardFault>
 }
 
 // The address that a value is.
-fn address(alloc: Global, value: &Value, key: Key, entry: u32) -> Result<[u8; 4], BoardError>
-    ensures { Gives (λ ip. ip) result (faulted key entry (text address (view value.now))) }
+fn address(value: &Value) -> Result<[u8; 4], KeyKind>
+    ensures { result ≡ text address (view value.now) }
 {
-    let Some(text) = value.as_str() else {
-        return Err(fault(key, entry, KeyKind::WrongType));
-    };
-    match board_read::numbers::address(alloc, text.as_bytes())? {
-        Some(ip) => Ok(ip),
-        None => Err(fault(key, entry, KeyKind::BadText)),
+    match value.as_str() {
+        Some(text) => board_read::numbers::address(text.as_bytes()).ok_or(KeyKind::BadText),
+        None => Err(KeyKind::WrongType),
     }
 }
 
@@ -79,26 +73,28 @@ fn address(alloc: Global, value: &Value, key: Key, entry: u32) -> Result<[u8; 4]
 ///
 /// # Errors
 ///
-/// `Missing`, `WrongType` and `BadText`, or want of memory.
-pub fn addr(alloc: Global, table: &Table, entry: u32) -> Result<[u8; 4], BoardError>
-    ensures { Gives (λ ip. ip) result (addr_row entry (table_view table.now)) }
+/// `Missing`, `WrongType` and `BadText`.
+pub fn addr(table: &Table, entry: u32) -> Result<[u8; 4], BoardFault>
+    ensures { result ≡ addr_row entry (table_view table.now) }
 {
-    match value_at(table, Key::Addr) {
-        Some(value) => address(alloc, value, Key::Addr, entry),
-        None => Err(fault(Key::Addr, entry, KeyKind::Missing)),
-    }
+    let judged = match value_at(table, Key::Addr) {
+        Some(value) => address(value),
+        None => Err(KeyKind::Missing),
+    };
+    faulted(Key::Addr, entry, judged)
 }
 
 /// The address of the host, by default 127.0.0.1, that a route leads to.
 ///
 /// # Errors
 ///
-/// `WrongType` and `BadText`, or want of memory.
-pub fn route_host(alloc: Global, table: &Table, entry: u32) -> Result<[u8; 4], BoardError>
-    ensures { Gives (λ ip. ip) result (route_host_row entry (table_view table.now)) }
+/// `WrongType` and `BadText`.
+pub fn route_host(table: &Table, entry: u32) -> Result<[u8; 4], BoardFault>
+    ensures { result ≡ route_host_row entry (table_view table.now) }
 {
-    match value_at(table, Key::Host) {
-        Some(value) => address(alloc, value, Key::Host, entry),
+    let judged = match value_at(table, Key::Host) {
+        Some(value) => address(value),
         None => Ok([127, 0, 0, 1]),
-    }
+    };
+    faulted(Key::Host, entry, judged)
 }

@@ -80,15 +80,15 @@ fn listen(table: &Table, entry: u32) -> Result<(u16, u16), BoardFault>
 }
 
 // An entry of `route`.
-fn route(alloc: Global, table: &Table, entry: u32) -> Result<(Addr, Addr), BoardError>
-    ensures { Gives (λ pair. pair) result (route entry (table_view table.now)) }
+fn route(table: &Table, entry: u32) -> Result<(Addr, Addr), BoardFault>
+    ensures { result ≡ route entry (table_view table.now) }
 {
     let from = Addr {
-        ip: addr(alloc, table, entry)?,
+        ip: addr(table, entry)?,
         port: port(table, Key::Port, entry)?,
     };
     let to = Addr {
-        ip: route_host(alloc, table, entry)?,
+        ip: route_host(table, entry)?,
         port: port(table, Key::HostPort, entry)?,
     };
     only_known(
@@ -131,7 +131,7 @@ pub fn add_routes(alloc: Global, file: &Table, routes: &mut Routes) -> Result<()
 {
     let tables = tables_at(alloc, file, Key::Route)?;
     for i in 0..tables.len() {
-        let (from, to) = route(alloc, tables[i], i as u32)?;
+        let (from, to) = route(tables[i], i as u32)?;
         routes.route(from, to)?;
     }
     Ok(())

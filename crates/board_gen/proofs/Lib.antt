@@ -1,8 +1,8 @@
 pub mod Each
-mod Faults
 mod Others
 pub mod Parts
 mod Readings
+pub mod EachLine
 mod Replays
 mod Together
 mod ToldLine

@@ -1,29 +1,19 @@
 -- What a text comes to, by what was found of it.
-use Rattle.std.proofs.Common.{◌≡◌, ℕ, ◌+◌, List, [], ◌∷◌, map, append-nil, Option, None, Some, Result, Ok, Err, refl, sym, ap, ◌∙◌, arith}
-use Rattle.std.specs.Prelude.{IsSome, unwrap_or}
-use Rattle.chip_sheet.specs.Replay.{Step}
+use Rattle.std.proofs.Common.{◌≡◌, ℕ, List, [], append-nil, Option, Ok, Err, sym, ap, ◌∙◌, arith}
 use Rattle.wz_base.proofs.Gathered.{appends_none}
 use Rattle.board_gen.specs.declared.fault.ScriptFault.{ScriptFault}
 use Rattle.board_gen.specs.declared.head.Beginning.{Beginning}
 use Rattle.board_gen.specs.declared.end.ScriptStop.TheVariants.{Fault, NoMemory}
 use Rattle.board_gen.specs.Faults.{AllRead}
 use Rattle.board_gen.specs.Heads.{script_begun, starts_said}
-use Rattle.board_gen.specs.Run.{lines_in, steps_in}
-use Rattle.board_gen.specs.Script.{line_found, lines_from, script_lines, script_of, scripted, with_line}
+use Rattle.board_gen.specs.Run.{lines_in}
+use Rattle.board_gen.specs.Script.{script_lines, script_of, scripted}
 use Rattle.board_gen.specs.Shown.{Shown, script_starts, shown, shown_from, shown_of, starts_in, Shows}
-use Rattle.board_gen.specs.Tokens.{steps, tokens}
-
-read_one : (n : ℕ) (o : Option (List Step)) (rest : Result (List (List Step)) ScriptFault) (all : List (List Step)) → IsSome o → rest ≡ Ok all → with_line (line_found n o) rest ≡ Ok (unwrap_or o [] ∷ all)
-read_one n None rest all there is = cc
-read_one n (Some found) rest all there is = ap (with_line (Ok found)) is
-
--- lines that are read
-read_lines : (n : ℕ) (lines : List (List ℕ)) → AllRead lines → lines_from n lines ≡ Ok (map steps_in lines)
-read_lines n [] read = refl
-read_lines n (line ∷ more) (there, read) = read_one n (steps (tokens line)) (lines_from (n + 1) more) (map steps_in more) there (read_lines (n + 1) more read)
+use Rattle.board_gen.specs.Tokens.{line_steps}
+use Rattle.board_gen.proofs.EachLine.{read_lines}
 
 begun_read : (b : Beginning) → AllRead (script_lines b.rest.now) → script_begun b ≡ Ok (record { starts = starts_said b; number = b.number; lines = lines_in b.rest.now })
-begun_read b read = ap (scripted (starts_said b) b.number) (read_lines b.number (script_lines b.rest.now) read)
+begun_read b read = ap (scripted (starts_said b) b.number) (read_lines line_steps [] b.number (script_lines b.rest.now) read)
 
 -- a text that is a script
 pub shown_read : (text : List ℕ) (b : Beginning) → script_of text ≡ script_begun b → AllRead (script_lines b.rest.now) → shown_from (starts_said b) [] b.number (lines_in b.rest.now) ≡ shown text

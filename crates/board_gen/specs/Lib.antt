@@ -1,5 +1,6 @@
 pub mod Links
 pub mod Tokens
+pub mod EachLine
 pub mod Script
 pub mod Faults
 pub mod Views

@@ -1,14 +1,15 @@
 -- Scripts: a line `start TX RX` where it is wanted, and lines of tokens.
-use Rattle.std.specs.Prelude.{ℕ, ◌+◌, ◌==◌, List, [], ◌∷◌, map, take, Option, None, Some, Result, Ok, Err, codes, if◌then◌else◌}
+use Rattle.std.specs.Prelude.{ℕ, ◌==◌, List, [], ◌∷◌, map, take, Option, None, Some, Result, Ok, Err, codes, if◌then◌else◌}
 use Rattle.std.specs.List.{slice_split, position}
 use Rattle.std.specs.Str.{bytes_eq}
 use Rattle.std.specs.Str.Lines.{lines_of_parts}
 use Rattle.chip_sheet.specs.Streams.{Starts}
 use Rattle.chip_sheet.specs.Replay.{Step}
 use Rattle.board_gen.specs.declared.fault.ScriptFault.{ScriptFault}
-use Rattle.board_gen.specs.declared.fault.ScriptKind.TheVariants.{BadHead, BadToken}
+use Rattle.board_gen.specs.declared.fault.ScriptKind.TheVariants.{BadHead}
 use Rattle.board_read.specs.Numbers.{pointer}
-use Rattle.board_gen.specs.Tokens.{tokens, steps}
+use Rattle.board_gen.specs.EachLine.{read_from}
+use Rattle.board_gen.specs.Tokens.{tokens, line_steps}
 
 abbrev pub cut_at : Option ℕ → List ℕ → List ℕ
 cut_at None part = part
@@ -37,23 +38,9 @@ pub record Scripted : Type 0 where
   pub number : ℕ
   pub lines : List (List Step)
 
-abbrev pub line_found : ℕ → Option (List Step) → Result (List Step) ScriptFault
-line_found n None = Err (record { line = n; kind = BadToken })
-line_found n (Some found) = Ok found
-
--- The steps of the line with the number n, where each of its tokens is one.
-abbrev pub line_read : ℕ → List ℕ → Result (List Step) ScriptFault
-line_read n line = line_found n (steps (tokens line))
-
-abbrev pub with_line : Result (List Step) ScriptFault → Result (List (List Step)) ScriptFault → Result (List (List Step)) ScriptFault
-with_line (Err fault) rest = Err fault
-with_line (Ok line) (Ok rest) = Ok (line ∷ rest)
-with_line (Ok line) (Err fault) = Err fault
-
 -- The steps of lines, the first of which has the number n; or the first fault.
 abbrev pub lines_from : ℕ → List (List ℕ) → Result (List (List Step)) ScriptFault
-lines_from n [] = Ok []
-lines_from n (line ∷ more) = with_line (line_read n line) (lines_from (n + 1) more)
+lines_from = read_from line_steps
 
 -- How a script begins: with the pointers, with a word `start` and something else behind it, or with neither.
 pub data Head : Type 0 where

@@ -36,3 +36,7 @@ tokens line = filter is_token (slice_split (λ b. b == 32) line)
 -- The steps of tokens, where each is one.
 abbrev pub steps : List (List ℕ) → Option (List Step)
 steps words = each token_step words
+
+-- The steps of a line, where each of its tokens is one.
+abbrev pub line_steps : List ℕ → Option (List Step)
+line_steps line = steps (tokens line)

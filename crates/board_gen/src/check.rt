@@ -1,13 +1,16 @@
 // Whether a text is a script: its first fault. Nothing is kept of its lines.
-ghost use Rattle.std.specs.Prelude.{◌≡◌, ◌≤◌, ◌<◌, ◌+◌, ◌^◌, OnOk, IfOk, IfErr, length};
-ghost use Rattle.board_gen.specs.Script.{lines_from, script_lines, script_of};
-ghost use Rattle.board_gen.specs.Faults.{AllRead, Tells};
+ghost use Rattle.std.specs.Prelude.{◌≡◌, ◌≤◌, ◌<◌, ◌+◌, ◌^◌, List, IfOk, IfErr, length};
+ghost use Rattle.chip_sheet.specs.Replay.{Step};
+ghost use Rattle.board_gen.specs.Script.{script_lines, script_of};
+ghost use Rattle.board_gen.specs.Faults.{AllRead};
 ghost use Rattle.board_gen.specs.Heads.{script_begun};
-ghost use Rattle.board_gen.specs.Tokens.{steps, token_step, tokens};
+ghost use Rattle.board_gen.specs.EachLine.{Tells};
+ghost use Rattle.board_gen.specs.Tokens.{line_steps, token_step};
 ghost use Rattle.board_gen.specs.Views.{Errs};
 
 use crate::cuts::{first_line, first_token};
-use crate::fault::{ReadError, ScriptFault, ScriptKind};
+use crate::fault::ReadError;
+use crate::formats::{LineFormat, check_lines};
 use crate::head::{Beginning, read_beginning};
 use crate::tokens::token_of;
 use std::alloc::{AllocError, Global};
@@ -21,7 +24,7 @@ fn is_token(alloc: Global, text: &[u8]) -> Result<bool, AllocError>
 
 // Whether each text between the spaces of a line is a token.
 fn are_tokens(alloc: Global, line: &[u8]) -> Result<bool, AllocError>
-    ensures { IfOk result (λ are. Tells are (steps (tokens line.now))) }
+    ensures { IfOk result (λ are. Tells are (line_steps line.now)) }
 {
     let mut rest = line;
     while let Some((word, after)) = first_token(rest) {
@@ -33,25 +36,23 @@ fn are_tokens(alloc: Global, line: &[u8]) -> Result<bool, AllocError>
     Ok(true)
 }
 
-// Looks for the first fault of lines, the first of which has this number.
-fn check_lines(alloc: Global, text: &[u8], number: u32) -> Result<(), ReadError>
-    requires { number + length text.now < 2 ^ 32 }
-    ensures ok { OnOk result (AllRead (script_lines text.now)) }
-    ensures err { IfErr result (λ e. Errs e (lines_from number (script_lines text.now))) }
-{
-    let mut rest = text;
-    let mut line_number = number;
-    while let Some((line, after)) = first_line(rest) {
-        if !are_tokens(alloc, line)? {
-            return Err(ReadError::Fault(ScriptFault {
-                line: line_number,
-                kind: ScriptKind::BadToken,
-            }));
-        }
-        rest = after;
-        line_number += 1;
+// The lines of a script.
+struct ScriptFormat;
+
+impl LineFormat for ScriptFormat {
+    ghost Found = { List Step };
+
+    ghost lines = { script_lines };
+
+    ghost read = { line_steps };
+
+    fn first_line(text: &[u8]) -> Option<(&[u8], &[u8])> {
+        first_line(text)
     }
-    Ok(())
+
+    fn is_read(alloc: Global, line: &[u8]) -> Result<bool, AllocError> {
+        are_tokens(alloc, line)
+    }
 }
 
 /// Checks that a text is a script, and answers how it begins.
@@ -69,7 +70,7 @@ pub fn check(alloc: Global, text: &[u8]) -> Result<Beginning<'_>, ReadError>
     ensures err { IfErr result (λ e. Errs e (script_of text.now)) }
 {
     match read_beginning(text) {
-        Ok(begins) => match check_lines(alloc, begins.rest, begins.number) {
+        Ok(begins) => match check_lines::<ScriptFormat>(alloc, begins.rest, begins.number) {
             Ok(()) => Ok(begins),
             Err(error) => Err(error),
         },

@@ -1,27 +1,11 @@
-//! Texts cut into lines and tokens, one after another, without memory.
+//! Scripts cut into lines and tokens, one after another, without memory.
 ghost use Rattle.std.specs.Prelude.{◌≡◌, ◌==◌, ◌<◌, ◌≤◌, ◌+◌, ◌∷◌, [], length, IfSome, MatchOption};
-ghost use Rattle.std.specs.List.{slice_split, position};
+ghost use Rattle.std.specs.List.{slice_split};
 ghost use Rattle.std.specs.Str.Lines.{strip_carriage_return};
 ghost use Rattle.board_gen.specs.Script.{uncommented, script_lines};
 ghost use Rattle.board_gen.specs.Tokens.{tokens};
 
-// The first place of a byte in a text.
-fn place_of(text: &[u8], byte: u8) -> Option<usize>
-    ensures { result ≡ position (λ b. b == byte) text.now }
-{
-    text.iter().position(|b| *b == byte)
-}
-
-/// A text up to the first place of a byte, and what stands behind that place; `None` where the byte is not in it.
-pub fn cut(text: &[u8], byte: u8) -> Option<(&[u8], &[u8])>
-    ensures parts { MatchOption result (slice_split (λ b. b == byte) text.now ≡ text.now ∷ []) (λ p. slice_split (λ b. b == byte) text.now ≡ p.0.now ∷ slice_split (λ b. b == byte) p.1.now) }
-    ensures sizes { IfSome result (λ p. length p.0.now + 1 + length p.1.now ≡ length text.now) }
-{
-    match place_of(text, byte) {
-        Some(at) => Some((&text[..at], &text[at + 1..])),
-        None => None,
-    }
-}
+use board_read::cuts::{cut, place_of};
 
 // A part without its comment.
 fn uncommented(part: &[u8]) -> &[u8]

@@ -9,6 +9,7 @@ mod check;
 pub mod cuts;
 pub mod end;
 pub mod fault;
+pub mod formats;
 mod head;
 pub mod laws;
 mod line;

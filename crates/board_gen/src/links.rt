@@ -1,13 +1,13 @@
 //! Link tokens: `@n:` and what the link of socket n did.
-ghost use Rattle.std.specs.Prelude.{◌≡◌, ◌<◌, IfOk, IfSome, option_map};
+ghost use Rattle.std.specs.Prelude.{◌≡◌, ◌==◌, ◌<◌, ◌∷◌, IfOk, IfSome, option_map};
+ghost use Rattle.std.specs.List.{slice_split};
 ghost use Rattle.std.specs.Str.{bytes_eq};
-ghost use Rattle.board_gen.specs.Links.{bare, counted, peer, accepted, datagram, what, socket, link_parts, link};
+ghost use Rattle.board_gen.specs.Links.{bare, counted, peer, accepted, datagram, what, socket, link};
 ghost use Rattle.board_gen.specs.Views.{entry_of, step_of};
-ghost use Rattle.board_read.specs.Texts.{texts};
 
 use crate::token::{LinkStep, LinkToken, Token};
 use board_read::bytes::bytes;
-use board_read::cuts::parts;
+use board_read::cuts::cut;
 use board_read::numbers::{address, count, port};
 use chip_sheet::event::Addr;
 use std::alloc::{AllocError, Global};
@@ -55,30 +55,25 @@ fn counted(alloc: Global, word: &[u8], field: &[u8]) -> Result<Option<LinkToken>
 }
 
 // An address and its port.
-fn peer(alloc: Global, addr: &[u8], number: &[u8]) -> Result<Option<Addr>, AllocError>
-    ensures { IfOk result (λ from. from ≡ peer addr.now number.now) }
+fn peer(addr: &[u8], number: &[u8]) -> Option<Addr>
+    ensures { result ≡ peer addr.now number.now }
 {
-    match (address(alloc, addr)?, port(number)) {
-        (Some(ip), Some(port)) => Ok(Some(Addr { ip, port })),
-        _ => Ok(None),
+    match (address(addr), port(number)) {
+        (Some(ip), Some(port)) => Some(Addr { ip, port }),
+        _ => None,
     }
 }
 
 // `accepted:ADDR:PORT`.
-fn accepted(
-    alloc: Global,
-    word: &[u8],
-    addr: &[u8],
-    number: &[u8],
-) -> Result<Option<LinkToken>, AllocError>
-    ensures { IfOk result (λ what. option_map entry_of what ≡ accepted word.now addr.now number.now) }
+fn accepted(word: &[u8], addr: &[u8], number: &[u8]) -> Option<LinkToken>
+    ensures { option_map entry_of result ≡ accepted word.now addr.now number.now }
 {
     if word != b"accepted".as_slice() {
-        return Ok(None);
+        return None;
     }
-    match peer(alloc, addr, number)? {
-        Some(from) => Ok(Some(LinkToken::Accepted(from))),
-        None => Ok(None),
+    match peer(addr, number) {
+        Some(from) => Some(LinkToken::Accepted(from)),
+        None => None,
     }
 }
 
@@ -95,23 +90,41 @@ fn datagram(
     if word != b"datagram".as_slice() {
         return Ok(None);
     }
-    match (peer(alloc, addr, number)?, bytes(alloc, body)?) {
+    match (peer(addr, number), bytes(alloc, body)?) {
         (Some(from), Some(body)) => Ok(Some(LinkToken::Datagram(from, body))),
         _ => Ok(None),
     }
 }
 
-// What happened, from the parts behind the first colon.
-fn what(alloc: Global, parts: &[&[u8]]) -> Result<Option<LinkToken>, AllocError>
-    ensures { IfOk result (λ token. option_map entry_of token ≡ what (texts parts.now)) }
+// What happened, from the first three parts and the text behind the third colon.
+fn what_of_more(
+    alloc: Global,
+    word: &[u8],
+    addr: &[u8],
+    number: &[u8],
+    text: &[u8],
+) -> Result<Option<LinkToken>, AllocError>
+    ensures { IfOk result (λ token. option_map entry_of token ≡ what (word.now ∷ addr.now ∷ number.now ∷ slice_split (λ b. b == 58) text.now)) }
 {
-    match parts {
-        [] => Ok(None),
-        [word] => Ok(bare(word)),
-        [word, field] => counted(alloc, word, field),
-        [word, addr, number] => accepted(alloc, word, addr, number),
-        [word, addr, number, body] => datagram(alloc, word, addr, number, body),
-        _ => Ok(None),
+    match cut(text, b':') {
+        Some(_) => Ok(None),
+        None => datagram(alloc, word, addr, number, text),
+    }
+}
+
+// What happened, from the text behind the first colon. What stands behind a fourth one in it is not looked at.
+fn what(alloc: Global, text: &[u8]) -> Result<Option<LinkToken>, AllocError>
+    ensures { IfOk result (λ token. option_map entry_of token ≡ what (slice_split (λ b. b == 58) text.now)) }
+{
+    let Some((word, rest)) = cut(text, b':') else {
+        return Ok(bare(text));
+    };
+    let Some((field, last)) = cut(rest, b':') else {
+        return counted(alloc, word, rest);
+    };
+    match cut(last, b':') {
+        Some((number, more)) => what_of_more(alloc, word, field, number, more),
+        None => Ok(accepted(word, field, last)),
     }
 }
 
@@ -126,19 +139,6 @@ fn socket(place: &[u8]) -> Option<u8>
     }
 }
 
-// The token of the parts between its colons.
-fn link_parts(alloc: Global, parts: &[&[u8]]) -> Result<Option<Token>, AllocError>
-    ensures { IfOk result (λ token. option_map step_of token ≡ link_parts (texts parts.now)) }
-{
-    match parts {
-        [] => Ok(None),
-        [place, parts @ ..] => match (socket(place), what(alloc, parts)?) {
-            (Some(socket), Some(what)) => Ok(Some(Token::Link(LinkStep { socket, what }))),
-            _ => Ok(None),
-        },
-    }
-}
-
 /// The link token that a text is, if it is one.
 ///
 /// # Errors
@@ -147,6 +147,11 @@ fn link_parts(alloc: Global, parts: &[&[u8]]) -> Result<Option<Token>, AllocErro
 pub fn link(alloc: Global, text: &[u8]) -> Result<Option<Token>, AllocError>
     ensures { IfOk result (λ token. option_map step_of token ≡ link text.now) }
 {
-    let parts = parts(alloc, text, b':')?;
-    link_parts(alloc, &parts)
+    match cut(text, b':') {
+        Some((place, rest)) => match (socket(place), what(alloc, rest)?) {
+            (Some(socket), Some(what)) => Ok(Some(Token::Link(LinkStep { socket, what }))),
+            _ => Ok(None),
+        },
+        None => Ok(None),
+    }
 }

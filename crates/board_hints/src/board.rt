@@ -68,7 +68,7 @@ fn words(fault: BoardFault) -> &'static str {
 
 /// Where in a file that is TOML its fault stands.
 fn key_hint(alloc: Global, file: &Table, fault: BoardFault) -> Result<String, AllocError> {
-    let found = place_of(alloc, file, fault)?;
+    let found = place_of(file, fault);
     let table = table_text(alloc, found.place, fault.entry)?;
     if fault.kind == KeyKind::Unknown {
         return unknown_hint(alloc, found, table.as_str());

@@ -4,7 +4,6 @@ ghost use Rattle.board_hints.specs.Places.{keys_of};
 
 use board_file::{BoardFault, Key, KeyKind};
 use board_read::numbers::address;
-use std::alloc::{AllocError, Global};
 use toml::{Table, Value};
 
 /// A kind of table in a board file.
@@ -92,41 +91,31 @@ fn entry_at(file: &Table, key: Key, entry: u32) -> Option<&Table> {
 }
 
 /// Whether a value of a port or of an address has this fault.
-fn is_faulty(
-    alloc: Global,
-    value: &Value,
-    is_port: bool,
-    kind: KeyKind,
-) -> Result<bool, AllocError> {
+fn is_faulty(value: &Value, is_port: bool, kind: KeyKind) -> bool {
     if is_port {
-        return Ok(match value.as_integer() {
+        return match value.as_integer() {
             Some(number) => kind == KeyKind::OutOfRange && (number < 1 || number > 65_535),
             None => kind == KeyKind::WrongType,
-        });
+        };
     }
     match value.as_str() {
-        Some(text) => Ok(kind == KeyKind::BadText && address(alloc, text.as_bytes())?.is_none()),
-        None => Ok(kind == KeyKind::WrongType),
+        Some(text) => kind == KeyKind::BadText && address(text.as_bytes()).is_none(),
+        None => kind == KeyKind::WrongType,
     }
 }
 
 /// Whether an entry of `listen` or `route` has this fault.
-fn stands_in(
-    alloc: Global,
-    table: &Table,
-    place: Place,
-    fault: BoardFault,
-) -> Result<bool, AllocError> {
+fn stands_in(table: &Table, place: Place, fault: BoardFault) -> bool {
     if fault.kind == KeyKind::Unknown {
-        return Ok(first_unknown(table, place).is_some());
+        return first_unknown(table, place).is_some();
     }
     if !has(place, fault.key.word()) {
-        return Ok(false);
+        return false;
     }
     let is_port = place == Place::Listen || fault.key == Key::Port || fault.key == Key::HostPort;
     match table.get(fault.key.word()) {
-        Some(value) => is_faulty(alloc, value, is_port, fault.kind),
-        None => Ok(fault.kind == KeyKind::Missing),
+        Some(value) => is_faulty(value, is_port, fault.kind),
+        None => fault.kind == KeyKind::Missing,
     }
 }
 
@@ -167,32 +156,24 @@ fn in_peer_or_file(file: &Table, fault: BoardFault) -> Found<'_> {
 
 /// The table in which the first fault of a file stands: tables are judged in the order listen, route, peer, and last the file's own
 /// unknown keys.
-///
-/// # Errors
-///
-/// Out of memory alone.
-pub fn place_of<'a>(
-    alloc: Global,
-    file: &'a Table,
-    fault: BoardFault,
-) -> Result<Found<'a>, AllocError> {
+pub fn place_of(file: &Table, fault: BoardFault) -> Found<'_> {
     if has(Place::File, fault.key.word()) {
-        return Ok(Found {
+        return Found {
             place: Place::File,
             table: file,
-        });
+        };
     }
     if let Some(table) = entry_at(file, Key::Listen, fault.entry) {
         let place = Place::Listen;
-        if stands_in(alloc, table, place, fault)? {
-            return Ok(Found { place, table });
+        if stands_in(table, place, fault) {
+            return Found { place, table };
         }
     }
     if let Some(table) = entry_at(file, Key::Route, fault.entry) {
         let place = Place::Route;
-        if stands_in(alloc, table, place, fault)? {
-            return Ok(Found { place, table });
+        if stands_in(table, place, fault) {
+            return Found { place, table };
         }
     }
-    Ok(in_peer_or_file(file, fault))
+    in_peer_or_file(file, fault)
 }

@@ -1,5 +1,5 @@
 -- What a trace's faults and verdicts say, in the words of whole lists.
-use Rattle.std.specs.Prelude.{◌≡◌, ◌≢◌, ℕ, ◌+◌, List, [], ◌∷◌, ◌++◌, map, length, reverse, Option, None, Some, Ok, Err}
+use Rattle.std.specs.Prelude.{◌≡◌, ◌≢◌, ℕ, List, [], ◌∷◌, ◌++◌, length, reverse, Option, None, Some}
 use Rattle.chip_sheet.specs.declared.event.Entry.{Entry}
 use Rattle.chip_sheet.specs.declared.event.Entry.TheVariants.{Bus, Link, Rest}
 use Rattle.chip_sheet.specs.Past.{Past}
@@ -7,34 +7,19 @@ use Rattle.chip_sheet.specs.Streams.{Starts}
 use Rattle.chip_sheet.specs.Answers.{answer}
 use Rattle.chip_sheet.specs.Stops.{stop}
 use Rattle.chip_sheet.specs.Legal.{Legal, FitsAfter}
-use Rattle.board_gen.specs.declared.fault.ScriptFault.{ScriptFault}
-use Rattle.board_gen.specs.declared.fault.ScriptKind.TheVariants.{BadToken}
+use Rattle.board_gen.specs.EachLine.{FaultIsFirst, ReadsEach}
 use Rattle.board_judge.specs.declared.end.JudgeFault.{JudgeFault}
 use Rattle.board_judge.specs.declared.end.JudgeFault.TheVariants.{Differs, Unfit, Stops}
 use Rattle.board_judge.specs.Entries.{entry_read}
-use Rattle.board_judge.specs.Trace.{entries_from}
 use Rattle.board_judge.specs.Judged.{answer_byte, judged}
-use Rattle.board_judge.specs.Run.{AllRead}
 
--- The fault is at a line that is no entry, and at none before it; lines are counted from n.
-pub record FirstFault (n : ℕ) (lines : List (List ℕ)) (fault : ScriptFault) : Type 0 where
-  pub before : List (List ℕ)
-  pub faulty : List ℕ
-  pub behind : List (List ℕ)
-  pub parts : lines ≡ before ++ faulty ∷ behind
-  pub number : fault.line ≡ n + length before
-  pub kind : fault.kind ≡ BadToken
-  pub read : AllRead before
-  pub none : entry_read faulty ≡ None
-
+-- A fault is at the first line that is no entry.
 abbrev pub FaultsAreFirst : Type 0
-FaultsAreFirst =
-    (n : ℕ) (lines : List (List ℕ)) (fault : ScriptFault) → entries_from n lines ≡ Err fault → FirstFault n lines fault
+FaultsAreFirst = FaultIsFirst entry_read
 
 -- Where lines are read, each entry is that of its line.
 abbrev pub ReadsEachLine : Type 0
-ReadsEachLine =
-    (n : ℕ) (lines : List (List ℕ)) (found : List Entry) → entries_from n lines ≡ Ok found → map entry_read lines ≡ map Some found
+ReadsEachLine = ReadsEach entry_read
 
 -- This is wrong with an entry after this past: the chip answers otherwise, with the bytes of both answers; the link event does not
 -- fit; or the event has this stop.

@@ -1,5 +1,5 @@
 -- What the program gives of entries while it judges them.
-use Rattle.std.specs.Prelude.{◌≡◌, ◌<◌, ℕ, List, [], ◌∷◌, map, unwrap_or, None, Some, IsSome, Result, Ok, Err}
+use Rattle.std.specs.Prelude.{◌≡◌, ◌<◌, ℕ, List, [], ◌∷◌, map, unwrap_or, None, Some, Result, Ok, Err}
 use Rattle.chip_sheet.specs.declared.event.Entry.{Entry}
 use Rattle.chip_sheet.specs.declared.event.Entry.TheVariants.{Bus, Link, Rest}
 use Rattle.chip_sheet.specs.Past.{Past, GoesOn}
@@ -10,14 +10,14 @@ use Rattle.chip_hist.specs.Log.{Log}
 use Rattle.board_gen.specs.declared.session.TheConstants.{WEIGHT_LIMIT}
 use Rattle.board_judge.specs.declared.run.Halt.{Halt}
 use Rattle.board_judge.specs.declared.run.Halt.TheVariants.{Broken, NoMemory}
+use Rattle.board_gen.specs.EachLine.{EachRead}
 use Rattle.board_judge.specs.Entries.{entry_read}
 use Rattle.board_judge.specs.Trace.{trace_lines}
 use Rattle.board_judge.specs.Judged.{Judged, breach}
 
 -- Each line is an entry.
 abbrev pub AllRead : List (List ℕ) → Type 0
-AllRead [] = Unit {0}
-AllRead (line ∷ more) = IsSome (entry_read line) × AllRead more
+AllRead = EachRead entry_read
 
 -- The entry of a line that is read.
 abbrev pub entry_of_line : List ℕ → Entry

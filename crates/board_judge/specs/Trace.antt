@@ -1,12 +1,13 @@
 -- Traces: a line `w5500 trace 1 TX RX`, and a line for each entry of a history.
-use Rattle.std.specs.Prelude.{ℕ, ◌+◌, ◌==◌, List, [], ◌∷◌, drop, length, Option, None, Some, Result, Ok, Err, codes, if◌then◌else◌}
+use Rattle.std.specs.Prelude.{ℕ, ◌==◌, List, [], ◌∷◌, drop, length, Option, None, Some, Result, Ok, Err, codes, if◌then◌else◌}
 use Rattle.std.specs.List.{slice_split, starts_with}
 use Rattle.std.specs.Str.Lines.{lines_of_parts}
 use Rattle.chip_sheet.specs.declared.event.Entry.{Entry}
 use Rattle.chip_sheet.specs.Streams.{Starts}
 use Rattle.board_gen.specs.declared.fault.ScriptFault.{ScriptFault}
-use Rattle.board_gen.specs.declared.fault.ScriptKind.TheVariants.{BadHead, BadToken}
+use Rattle.board_gen.specs.declared.fault.ScriptKind.TheVariants.{BadHead}
 use Rattle.board_read.specs.Numbers.{pointer}
+use Rattle.board_gen.specs.EachLine.{read_from}
 use Rattle.board_judge.specs.Entries.{entry_read}
 
 -- The lines of a trace. Each ends with LF or CR LF, 10 is a line feed, and the last one may have no end.
@@ -35,19 +36,9 @@ version = codes "w5500 trace 1 "
 abbrev pub head : List ℕ → Option Starts
 head line = if starts_with (λ a b. a == b) line version then numbers (drop (length version) line) else None
 
-abbrev pub entry_found : ℕ → Option Entry → Result Entry ScriptFault
-entry_found n None = Err (record { line = n; kind = BadToken })
-entry_found n (Some entry) = Ok entry
-
-abbrev pub with_entry : Result Entry ScriptFault → Result (List Entry) ScriptFault → Result (List Entry) ScriptFault
-with_entry (Err fault) rest = Err fault
-with_entry (Ok entry) (Ok rest) = Ok (entry ∷ rest)
-with_entry (Ok entry) (Err fault) = Err fault
-
 -- The entries of lines, the first of which has the number n; or the first fault.
 abbrev pub entries_from : ℕ → List (List ℕ) → Result (List Entry) ScriptFault
-entries_from n [] = Ok []
-entries_from n (line ∷ more) = with_entry (entry_found n (entry_read line)) (entries_from (n + 1) more)
+entries_from = read_from entry_read
 
 -- What a trace says: where the positions start, and what happened, the oldest first.
 pub record Traced : Type 0 where

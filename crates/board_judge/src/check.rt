@@ -1,15 +1,16 @@
 // Whether a text is a trace: its first fault. Nothing is kept of its lines.
-ghost use Rattle.std.specs.Prelude.{◌≡◌, ◌≤◌, ◌<◌, ◌+◌, ◌^◌, Err, OnOk, IfOk, IfErr, length};
-ghost use Rattle.board_gen.specs.Faults.{Tells};
+ghost use Rattle.std.specs.Prelude.{◌≡◌, ◌≤◌, ◌<◌, ◌+◌, ◌^◌, Err, IfOk, IfErr, length};
+ghost use Rattle.chip_sheet.specs.declared.event.Entry.{Entry};
 ghost use Rattle.board_gen.specs.Views.{Errs};
 ghost use Rattle.board_judge.specs.Entries.{entry_read};
-ghost use Rattle.board_judge.specs.Trace.{entries_from, trace_lines, trace_of};
+ghost use Rattle.board_judge.specs.Trace.{trace_lines, trace_of};
 ghost use Rattle.board_judge.specs.Run.{AllRead};
 ghost use Rattle.board_judge.specs.Views.{trace_begun};
 
 use crate::entry::entry_of_line;
 use crate::head::{StartPointers, head};
 use crate::lines::first_line;
+use board_gen::formats::{LineFormat, check_lines};
 use board_gen::{ReadError, ScriptFault, ScriptKind};
 use std::alloc::{AllocError, Global};
 
@@ -43,32 +44,23 @@ fn read_beginning(text: &[u8]) -> Result<Beginning<'_>, ScriptFault>
     }
 }
 
-// Whether a line is an entry.
-fn is_entry(alloc: Global, line: &[u8]) -> Result<bool, AllocError>
-    ensures { IfOk result (λ is. Tells is (entry_read line.now)) }
-{
-    Ok(entry_of_line(alloc, line)?.is_some())
-}
+// The lines of a trace.
+struct TraceFormat;
 
-// Looks for the first fault of lines, the first of which has this number.
-fn check_lines(alloc: Global, text: &[u8], number: u32) -> Result<(), ReadError>
-    requires { number + length text.now < 2 ^ 32 }
-    ensures ok { OnOk result (AllRead (trace_lines text.now)) }
-    ensures err { IfErr result (λ e. Errs e (entries_from number (trace_lines text.now))) }
-{
-    let mut rest = text;
-    let mut line_number = number;
-    while let Some((line, after)) = first_line(rest) {
-        if !is_entry(alloc, line)? {
-            return Err(ReadError::Fault(ScriptFault {
-                line: line_number,
-                kind: ScriptKind::BadToken,
-            }));
-        }
-        rest = after;
-        line_number += 1;
+impl LineFormat for TraceFormat {
+    ghost Found = { Entry };
+
+    ghost lines = { trace_lines };
+
+    ghost read = { entry_read };
+
+    fn first_line(text: &[u8]) -> Option<(&[u8], &[u8])> {
+        first_line(text)
     }
-    Ok(())
+
+    fn is_read(alloc: Global, line: &[u8]) -> Result<bool, AllocError> {
+        Ok(entry_of_line(alloc, line)?.is_some())
+    }
 }
 
 /// Checks that a text is a trace, and answers how it begins.
@@ -85,7 +77,7 @@ pub fn check(alloc: Global, text: &[u8]) -> Result<Beginning<'_>, ReadError>
     ensures err { IfErr result (λ e. Errs e (trace_of text.now)) }
 {
     match read_beginning(text) {
-        Ok(begins) => match check_lines(alloc, begins.rest, 2) {
+        Ok(begins) => match check_lines::<TraceFormat>(alloc, begins.rest, 2) {
             Ok(()) => Ok(begins),
             Err(error) => Err(error),
         },

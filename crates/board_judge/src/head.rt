@@ -4,7 +4,7 @@ ghost use Rattle.std.specs.List.{slice_split};
 ghost use Rattle.board_judge.specs.Trace.{pointers, two_numbers, numbers, head};
 ghost use Rattle.board_judge.specs.Views.{starts_said};
 
-use board_gen::cuts::cut;
+use board_read::cuts::cut;
 use board_read::numbers::pointer;
 
 /// What stands before the numbers: the name of the format and its version.

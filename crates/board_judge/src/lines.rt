@@ -3,7 +3,8 @@ ghost use Rattle.std.specs.Prelude.{◌≡◌, ◌==◌, ◌<◌, ◌≤◌, ◌
 ghost use Rattle.std.specs.List.{slice_split};
 ghost use Rattle.board_judge.specs.Trace.{trace_lines};
 
-use board_gen::cuts::{cut, without_return};
+use board_gen::cuts::without_return;
+use board_read::cuts::cut;
 
 // The line of a text without a line feed: none where nothing stands in it.
 fn last_line(text: &[u8]) -> Option<&[u8]>

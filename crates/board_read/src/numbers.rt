@@ -1,10 +1,9 @@
 //! Numbers and addresses, in decimal.
-ghost use Rattle.std.specs.Prelude.{◌≡◌, ◌≤◌, IfOk, IfSome};
+ghost use Rattle.std.specs.Prelude.{◌≡◌, ◌==◌, ◌≤◌, [], ◌∷◌, IfSome};
+ghost use Rattle.std.specs.List.{slice_split};
 ghost use Rattle.board_read.specs.Numbers.{number, at_most, port, count, has_leading_zero, written, pointer, four_bytes, address};
-ghost use Rattle.board_read.specs.Texts.{texts};
 
-use crate::cuts::parts;
-use std::alloc::{AllocError, Global};
+use crate::cuts::cut;
 
 // The number of one to ten decimal digits.
 fn number(text: &[u8]) -> Option<u64>
@@ -96,28 +95,34 @@ fn address_byte(text: &[u8]) -> Option<u8>
 }
 
 // The four bytes of an address, from the parts between its dots.
-fn four_bytes(parts: &[&[u8]]) -> Option<[u8; 4]>
-    ensures { result ≡ four_bytes (texts parts.now) }
+fn four_bytes(a: &[u8], b: &[u8], c: &[u8], d: &[u8]) -> Option<[u8; 4]>
+    ensures { result ≡ four_bytes (a.now ∷ b.now ∷ c.now ∷ d.now ∷ []) }
 {
-    match parts {
-        [a, b, c, d] => Some([
-            address_byte(a)?,
-            address_byte(b)?,
-            address_byte(c)?,
-            address_byte(d)?,
-        ]),
-        _ => None,
+    Some([
+        address_byte(a)?,
+        address_byte(b)?,
+        address_byte(c)?,
+        address_byte(d)?,
+    ])
+}
+
+// The four bytes of an address, from its first three parts and what stands behind them.
+fn with_last(a: &[u8], b: &[u8], c: &[u8], rest: &[u8]) -> Option<[u8; 4]>
+    ensures { result ≡ four_bytes (a.now ∷ b.now ∷ c.now ∷ slice_split (λ b. b == 46) rest.now) }
+{
+    match cut(rest, b'.') {
+        Some(_) => None,
+        None => four_bytes(a, b, c, rest),
     }
 }
 
-/// The bytes of an address: four numbers of 0 to 255 without leading zeros, with dots between.
-///
-/// # Errors
-///
-/// Want of memory alone.
-pub fn address(alloc: Global, text: &[u8]) -> Result<Option<[u8; 4]>, AllocError>
-    ensures { IfOk result (λ ip. ip ≡ address text.now) }
+/// The bytes of an address: four numbers of 0 to 255 without leading zeros, with dots between. What stands behind a fourth dot is
+/// not looked at.
+pub fn address(text: &[u8]) -> Option<[u8; 4]>
+    ensures { result ≡ address text.now }
 {
-    let parts = parts(alloc, text, b'.')?;
-    Ok(four_bytes(&parts))
+    let (a, rest) = cut(text, b'.')?;
+    let (b, rest) = cut(rest, b'.')?;
+    let (c, rest) = cut(rest, b'.')?;
+    with_last(a, b, c, rest)
 }

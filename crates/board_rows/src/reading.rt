@@ -22,7 +22,7 @@ fn reads_numbers(rt: HostRuntime) {
 }
 
 #[test]
-fn reads_addresses(rt: HostRuntime) -> Result<(), Fail> {
+fn reads_addresses(rt: HostRuntime) {
     for (text, want) in [
         ("10.0.0.2", Some([10, 0, 0, 2])),
         ("255.255.255.255", Some([255, 255, 255, 255])),
@@ -32,9 +32,8 @@ fn reads_addresses(rt: HostRuntime) -> Result<(), Fail> {
         ("10.0.0.2.3", None),
         ("10.0.0.", None),
     ] {
-        assert_eq!(rt; address(rt.alloc(), text.as_bytes())?, want, "{text}");
+        assert_eq!(rt; address(text.as_bytes()), want, "{text}");
     }
-    Ok(())
 }
 
 #[test]

@@ -9,10 +9,11 @@ use Rattle.chip_sheet.specs.Past.{Past}
 use Rattle.chip_sheet.specs.Streams.{Starts}
 use Rattle.chip_sheet.specs.Legal.{Legal}
 use Rattle.board_text.specs.Entries.{entries_text, entry_text, trace_head}
+use Rattle.board_gen.specs.EachLine.{line_found, with_line}
 use Rattle.board_judge.specs.Entries.{entry_read}
 use Rattle.board_judge.specs.Judged.{judged}
 use Rattle.board_judge.specs.Shown.{shown_of, told}
-use Rattle.board_judge.specs.Trace.{entries_from, entry_found, head, headed, of_lines, pointers, trace_lines, traced, two_numbers, with_entry}
+use Rattle.board_judge.specs.Trace.{entries_from, head, headed, of_lines, pointers, trace_lines, traced, two_numbers}
 use Rattle.board_judge.proofs.Wrongs.{legal_judged}
 use Rattle.trace_laws.specs.Fitting.{AllFit, StartsFit}
 use Rattle.trace_laws.specs.Laws.{TracesAreLegal, TracesAreRead}
@@ -44,7 +45,7 @@ all_plain starts (entry ∷ past) (fits, fit) (allowed, legal) = (entry_plain st
 entries_back : (n : ℕ) (entries : List Entry) → EachRead entries → entries_from n (map entry_text entries) ≡ Ok entries
 unfolding EachRead
 entries_back n [] all = refl
-entries_back n (entry ∷ more) (one, all) = λ i. with_entry (entry_found n (one i)) (entries_back (n + 1) more all i)
+entries_back n (entry ∷ more) (one, all) = λ i. with_line (line_found n (one i)) (entries_back (n + 1) more all i)
 
 -- the first line without its line feed
 first_of : Starts → List ℕ
