@@ -1,8 +1,8 @@
 //! What is said on standard error behind a refusal, beside its line on standard output.
 
-use crate::end::{EndKind, Refusal};
-use crate::reading::read_operand;
 use board_hints::{board_hint, image_hint};
+use board_quick::end::{EndKind, Refusal};
+use board_quick::reading::read_operand;
 use std::alloc::Global;
 use wz_base::Files;
 

@@ -1,26 +1,15 @@
-//! The board runner's program: `run HEX BOARD` runs a firmware image on a board over sockets of the host, live, and prints what it prints
-//! and a report; `sim HEX BOARD` runs it with the board's scripted peers in place of sockets; `trace HEX BOARD` prints the trace of that run; `check HEX BOARD` judges an image and a board; `bus SCRIPT` runs a bus script
-//! against the chip and prints what the chip answers; `judge TRACE` judges the history of a trace; `list HEX` lists the instructions of
-//! an image; `gen N` runs the firmware of an echo server with the peer of a number; `--help` prints these forms.
+//! The board runner's program: `run HEX BOARD` runs a firmware image on a board over sockets of the host, live, and prints what it
+//! prints and a report; `sim HEX BOARD` runs it with the board's scripted peers in place of sockets; `trace HEX BOARD` prints the
+//! trace of that run; `check HEX BOARD` judges an image and a board; `bus SCRIPT` runs a bus script against the chip and prints what
+//! the chip answers; `judge TRACE` judges the history of a trace; `list HEX` lists the instructions of an image; `gen N` runs the
+//! firmware of an echo server with the peer of a number; `--help` prints these forms.
 #![tactic(auto)]
 
-mod boards;
-mod end;
 mod hints;
-#[cfg(test)]
-mod host_tests;
-mod left;
-mod loading;
-mod quick;
-mod reading;
-mod runs;
-#[cfg(test)]
-mod tests;
-mod texts;
-mod top;
-mod words;
 
-use end::{EndKind, status_of};
+use board_quick::end::{EndKind, status_of};
+use board_quick::quick::quick;
+use board_top::top::top;
 use host_links::{HostFault, host_pair};
 use live_trait::OpenGate;
 use std::process::ExitCode;
@@ -49,14 +38,14 @@ fn main(rt: HostRuntime) -> ExitCode {
     let mut files = StdFiles::new(&rt);
     let mut out = StdOut::new(io::writer(&rt));
     // Only a live run asks the system for more than files and output.
-    match quick::quick(rt.alloc(), &words, &mut files, &mut out) {
+    match quick(rt.alloc(), &words, &mut files, &mut out) {
         Some(ended) => {
             tell(&rt, &words, &mut files, ended.end);
             ExitCode::from(ended.status)
         }
         None => match host_pair(&rt, rt.alloc()) {
             Ok((links, poller)) => {
-                let ended = top::top(
+                let ended = top(
                     &rt,
                     rt.alloc(),
                     &words,

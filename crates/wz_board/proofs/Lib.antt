@@ -1,8 +1,0 @@
-mod Causes
-mod Scheduled
-mod Reported
-mod Shown
-mod Loaded
-mod Answered
-mod Topped
-mod Completed
