@@ -131,8 +131,8 @@ pub const HASH: &[(u16, &[u16])] = &[(
     ],
 )];
 
-/// A tick of timer 0 each 16,000 cycles (1 kHz at 16 MHz), at each tenth of which five bytes go out by the USART's interrupt; some work
-/// after each interrupt, and sleep between.
+/// A tick of timer 0 each 16,000 cycles (1 kHz at 16 MHz), at each tenth of which five bytes go out by the USART's interrupt;
+/// some work after each interrupt, and sleep between.
 ///
 /// ```text
 /// at word 0000:

@@ -7,8 +7,8 @@ use std::marker::Model;
 
 /// What a USART receiver gets from a console, and what waits in it.
 ///
-/// The console sends its next byte where the receiver is on and has room. A frame arrives one frame time after the latest of: the receiver
-/// going on, the last arrival, and the reading that made room; the frame time is the one that held at that moment.
+/// The console sends its next byte where the receiver is on and has room. A frame arrives one frame time after the latest of: the
+/// receiver going on, the last arrival, and the reading that made room; the frame time is the one that held at that moment.
 #[derive(Drop)]
 pub struct Console {
     cycle: u64,
@@ -56,8 +56,8 @@ impl Console {
         }
     }
 
-    /// RXEN is written at a cycle count, and a frame takes so many cycles from now on. A receiver that goes on has a frame on the way
-    /// from now on, one that stays on keeps the one that is on the way, and one that is off has none; what waits stays.
+    /// RXEN is written at a cycle count, and a frame takes so many cycles from now on. A receiver that goes on has a frame on the
+    /// way from now on, one that stays on keeps the one that is on the way, and one that is off has none; what waits stays.
     pub fn enable(&mut self, on: bool, frame: u32, at: u64)
         ensures { self.new ≡ enabled on frame at self.old }
     {
@@ -111,8 +111,8 @@ impl Console {
         }
     }
 
-    /// The next event: the cycle count at which the frame on the way arrives, `u64::MAX` where there is none. Until then nothing changes
-    /// but the count of cycles.
+    /// The next event: the cycle count at which the frame on the way arrives, `u64::MAX` where there is none. Until then nothing
+    /// changes but the count of cycles.
     #[inline]
     pub fn next_event(&self) -> u64
         ensures value { result ≡ next_event self.now }

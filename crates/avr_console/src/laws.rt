@@ -6,7 +6,8 @@ pub fn hears_all()
     ensures { HearsAll }
 {}
 
-/// The first byte arrives a frame time after the receiver goes on, the second a frame time later, and no further one without a reading.
+/// The first byte arrives a frame time after the receiver goes on, the second a frame time later, and no further one without a
+/// reading.
 pub fn frames_arrive()
     ensures { FramesArrive }
 {}

@@ -1,4 +1,5 @@
-//! The core of the ATmega328P: one instruction or one interrupt entry at a time, over any data bus, from flash that is decoded once.
+//! The core of the ATmega328P: one instruction or one interrupt entry at a time, over any data bus, from flash that is decoded
+//! once.
 //!
 //! What a step means stands in `specs/Meaning.antt`, a row of the Instruction Set Manual a line: the calls that it makes
 //! on the bus, in order, and the core after it. A layer above lends its devices as a `DataBus` and reads the contract of

@@ -97,12 +97,13 @@ impl Mcu {
         }
     }
 
-    /// Makes steps that ask nothing of the bus, while they begin below `limit`, a count of cycles, and gives how many: none, or some up to
-    /// `most`, the next look at INTn, the next event of a device, or the next instruction that reaches more than the core and SRAM, which
-    /// are left to `step`. They are at most 63.
+    /// Makes steps that ask nothing of the bus, while they begin below `limit`, a count of cycles, and gives how many: none, or
+    /// some up to `most`, the next look at INTn, the next event of a device, or the next instruction that reaches more than the
+    /// core and SRAM, which are left to `step`. They are at most 63.
     ///
-    /// Each is what `step` would have done: it ran an instruction or slept a cycle. Of them only the last may have printed a byte, which
-    /// `printed` then gives; `printed` is to be asked before, too. Where there were some, at most three cycles went by past `limit`.
+    /// Each is what `step` would have done: it ran an instruction or slept a cycle. Of them only the last may have printed a
+    /// byte, which `printed` then gives; `printed` is to be asked before, too. Where there were some, at most three cycles went
+    /// by past `limit`.
     pub fn hurry(&mut self, limit: u64, most: u64) -> u64
         requires { limit ≤ 2 ^ 63 }
         ensures goes { GoesOn limit result self.old self.new }
@@ -134,7 +135,8 @@ impl Mcu {
         }
     }
 
-    /// Plain instructions, at most `room`, up to the limit or the next event of a device. The devices pass their time once, at the end.
+    /// Plain instructions, at most `room`, up to the limit or the next event of a device. The devices pass their time once, at
+    /// the end.
     fn rush(&mut self, limit: u64, room: u8) -> u8
         requires limit { limit ≤ 2 ^ 63 }
         requires below { self.old.devices.cycles < limit }
@@ -211,7 +213,8 @@ impl Mcu {
         self.finish_entry(vector, went)
     }
 
-    /// What follows once the core has entered an interrupt, or has not (apart, since a `match` on a call's result is proved alone).
+    /// What follows once the core has entered an interrupt, or has not (apart, since a `match` on a call's result is proved
+    /// alone).
     fn finish_entry(&mut self, vector: u8, went: Went) -> McuWent
         requires { self.old.devices.cycles < 2 ^ 63 }
         ensures { gone result self.new ≡ entered vector went self.old }

@@ -28,9 +28,9 @@ fn may_begin(ran: u8, room: u8, spent: u64, most: u64, calm: u64, core: &Core) -
     ran < room && spent < most && (spent < calm || !is_set(core.sreg(), I_BIT))
 }
 
-/// Runs plain instructions: at most `room`, at most 63, each of which begins before `most` cycles are spent, and before `calm` cycles
-/// or with I clear. Gives how many ran, the cycles that they took, and SREG before the last of them; their addresses are at the head of
-/// `addresses`.
+/// Runs plain instructions: at most `room`, at most 63, each of which begins before `most` cycles are spent, and before `calm`
+/// cycles or with I clear. Gives how many ran, the cycles that they took, and SREG before the last of them; their addresses are
+/// at the head of `addresses`.
 ///
 /// A function of its own, with no peer and no type parameter, so that its values stay in registers.
 #[inline(never)]

@@ -6,7 +6,8 @@ ghost use Rattle.avr_mcu_laws.specs.Lowest.{LowestVectorFirst};
 ghost use Rattle.avr_mcu_laws.specs.Over.{OverOnlyAsSaid};
 ghost use Rattle.avr_mcu_laws.specs.Wanted.{OverOnlyWhereWanted};
 
-/// Over any peer a step says that the bus is over exactly behind an answer of the peer that says so, after which it asks nothing more.
+/// Over any peer a step says that the bus is over exactly behind an answer of the peer that says so, after which it asks nothing
+/// more.
 pub fn over_only_as_said()
     ensures { OverOnlyAsSaid }
 {}

@@ -1,3 +1,5 @@
+//! An image of instructions, loaded as a file is.
+
 use flash::*;
 use std::test::Fail;
 

@@ -1,5 +1,5 @@
-//! Worked rows of the microcontroller's parts, by values worked by hand from the manuals: images, arithmetic, encoding and the core.
-//! Nothing stands on it.
+//! Worked rows of the microcontroller's parts, by values worked by hand from the manuals: images, arithmetic, encoding and the
+//! core. Nothing stands on it.
 #![tactic(auto)]
 
 #[cfg(test)]

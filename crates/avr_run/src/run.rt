@@ -12,8 +12,8 @@ use std::alloc::{AllocError, Global};
 
 /// Runs the firmware over a peer until its run ends, and gives the bytes that it printed and its end.
 ///
-/// From a run that has come so far, with no byte printed yet, it is the whole run on the answers that the peer gave: what was asked, the
-/// bytes, the cycles, the trail and the end. The error says that no memory was left for the bytes.
+/// From a run that has come so far, with no byte printed yet, it is the whole run on the answers that the peer gave: what was
+/// asked, the bytes, the cycles, the trail and the end. The error says that no memory was left for the bytes.
 pub fn run_told<B: ToldPeer>(
     alloc: Global,
     mcu: &mut Mcu,

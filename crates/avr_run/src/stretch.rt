@@ -19,10 +19,11 @@ pub struct Stretch {
     pub end: Option<RunEnd>,
 }
 
-/// Makes steps of a run that ask nothing of the bus, at most `most`: none, or some, as `Mcu::hurry` does; the printed byte is taken.
+/// Makes steps of a run that ask nothing of the bus, at most `most`: none, or some, as `Mcu::hurry` does; the printed byte is
+/// taken.
 ///
-/// Where the run goes on (`end` is None), a run so far has come these steps further; else it is the whole run, with this end. The last
-/// step left the cycles below the limit, and 2^63 is the highest limit.
+/// Where the run goes on (`end` is None), a run so far has come these steps further; else it is the whole run, with this end. The
+/// last step left the cycles below the limit, and 2^63 is the highest limit.
 pub fn take_stretch(mcu: &mut Mcu, limit: u64, most: u64) -> Stretch
     requires limit { limit ≤ 2 ^ 63 }
     requires below { mcu.old.devices.cycles < limit }

@@ -21,8 +21,8 @@ pub struct Turn {
 }
 
 impl Turn {
-    /// How many instructions the step counts as: a cycle asleep counts as one, and an interrupt entry as none. So does the step at
-    /// which a run ends by itself.
+    /// How many instructions the step counts as: a cycle asleep counts as one, and an interrupt entry as none. So does the step
+    /// at which a run ends by itself.
     pub fn instructions(&self) -> u64
         ensures { result ≡ instructions_of self.now.went }
     {
@@ -39,8 +39,8 @@ impl Turn {
 
 /// One step of a run over a peer; the printed byte is taken.
 ///
-/// Where the run goes on (`end` is None), a run so far has come one step further; else it is the whole run, with this end. `limit` is in
-/// cycles since reset, and `mcu.cycles()` is below 2^63. A step that goes on leaves the cycles below the limit.
+/// Where the run goes on (`end` is None), a run so far has come one step further; else it is the whole run, with this end.
+/// `limit` is in cycles since reset, and `mcu.cycles()` is below 2^63. A step that goes on leaves the cycles below the limit.
 pub fn take_turn<B: ToldPeer>(mcu: &mut Mcu, peer: &mut B, limit: u64) -> Turn
     requires { mcu.old.devices.cycles < 2 ^ 63 }
     ensures goes { result.end ≡ None → (start : McuState) (serial : List ℕ) → SoFar limit start serial mcu.old (B.told peer.old)

@@ -192,8 +192,8 @@ impl Devices {
         self.drive_by(stays, low, ports, peer)
     }
 
-    /// The ports go to another state, whose select line is at this level and stays there or not (apart, since the definition is by
-    /// these two values).
+    /// The ports go to another state, whose select line is at this level and stays there or not (apart, since the definition is
+    /// by these two values).
     fn drive_by<B: BusPeer>(
         &mut self,
         stays: bool,
@@ -308,8 +308,8 @@ impl Devices {
         }
     }
 
-    /// The count of cycles before which nothing is requested: that of the next event of a device, or 0 where something is requested
-    /// now.
+    /// The count of cycles before which nothing is requested: that of the next event of a device, or 0 where something is
+    /// requested now.
     pub fn quiet_until(&self) -> u64
         ensures { IsQuietUntil self.now result }
     {

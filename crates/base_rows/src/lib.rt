@@ -1,4 +1,5 @@
-//! Worked rows of the outside: whole files and lines over lists of calls that fail, files of the system, gates and pollers. Nothing stands on it.
+//! Worked rows of the outside: whole files and lines over lists of calls that fail, files of the system, gates and pollers.
+//! Nothing stands on it.
 #![tactic(auto)]
 
 #[cfg(test)]

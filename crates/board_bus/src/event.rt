@@ -1,3 +1,5 @@
+//! The events of the bus, and what the chip answers.
+
 /// One event of the host's bus (W5500 datasheet, 2.1 SPI operation mode).
 #[derive(Clone, Copy, Debug, PartialEq, Eq)]
 pub enum BusEvent {

@@ -118,8 +118,8 @@ fn firmware(alloc: Global, events: &[BusEvent], many: u16) -> Result<Image, Allo
     image_of(alloc, &words)
 }
 
-/// The firmware that gives the chip these events, and then breaks: it sets the select line low and high, sends each byte by SPI and
-/// waits for it. A look gives the chip nothing.
+/// The firmware that gives the chip these events, and then breaks: it sets the select line low and high, sends each byte by SPI
+/// and waits for it. A look gives the chip nothing.
 ///
 /// # Errors
 ///

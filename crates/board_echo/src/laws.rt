@@ -8,7 +8,8 @@ pub fn echo_decodes()
     ensures { AreDecoded echo_words echo_lines }
 {}
 
-/// The words of firmware that gives the chip events are decoded to its text, unless they are more than 2,048; the call does nothing.
+/// The words of firmware that gives the chip events are decoded to its text, unless they are more than 2,048; the call does
+/// nothing.
 pub fn frames_decode()
     ensures { FramesAreDecoded }
 {}

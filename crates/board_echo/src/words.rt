@@ -41,8 +41,8 @@ pub(crate) fn image_of(alloc: Global, words: &[u16]) -> Result<Image, AllocError
     Ok(image)
 }
 
-/// The firmware of an echo server: on socket 0 it takes one client of port 5000, sends back what that says until it ends, and then
-/// disconnects, waits until the socket is closed, and breaks.
+/// The firmware of an echo server: on socket 0 it takes one client of port 5000, sends back what that says until it ends, and
+/// then disconnects, waits until the socket is closed, and breaks.
 ///
 /// # Errors
 ///

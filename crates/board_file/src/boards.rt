@@ -108,8 +108,8 @@ fn of_file(alloc: Global, file: &Table) -> Result<Board, BoardError>
 ///
 /// # Errors
 ///
-/// `Fault` exactly where the text says no board: its first fault, by the order of the keys in their tables. `NoMemory` where memory
-/// is not there.
+/// `Fault` exactly where the text says no board: its first fault, by the order of the keys in their tables. `NoMemory` where
+/// memory is not there.
 pub fn board(alloc: Global, text: &[u8]) -> Result<Board, BoardError>
     ensures gives { Gives (λ board. board) result (board_of text.now) }
     ensures limits { IfOk result IsWithinLimits }

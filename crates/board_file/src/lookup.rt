@@ -1,4 +1,5 @@
-// Keys looked up in a table.
+//! Keys looked up in a table.
+
 ghost use Rattle.std.specs.Prelude.{◌≡◌, option_map, string_bytes};
 ghost use Rattle.std.specs.List.{list_all};
 ghost use Rattle.std.specs.Map.{keys_of};

@@ -1,4 +1,5 @@
-// Entries of `peer`.
+//! Entries of `peer`.
+
 ghost use Rattle.std.specs.Prelude.{◌≡◌, ◌≤◌, map, zip, length, IfOk};
 ghost use Rattle.toml.specs.View.{view, table_view};
 ghost use Rattle.board_file.specs.declared.fault.Key.TheVariants as key;

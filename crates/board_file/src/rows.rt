@@ -1,4 +1,5 @@
-// Keys that several tables have, or several kinds of which are alike.
+//! Keys that several tables have, or several kinds of which are alike.
+
 ghost use Rattle.std.specs.Prelude.{◌≡◌, ◌≤◌, IfOk};
 ghost use Rattle.toml.specs.View.{view, table_view};
 ghost use Rattle.board_read.specs.Numbers.{address};

@@ -1,4 +1,5 @@
-// Arrays of tables, and the entries of `listen` and `route`.
+//! Arrays of tables, and the entries of `listen` and `route`.
+
 ghost use Rattle.std.specs.Prelude.{◌≡◌, ◌≤◌, [], map, length, is_some, IfOk, OnOk};
 ghost use Rattle.std.specs.List.{list_all};
 ghost use Rattle.toml.specs.Data.{as_table, get_member};

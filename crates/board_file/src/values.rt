@@ -1,4 +1,5 @@
-// What the value of a key says, or what is wrong with it.
+//! What the value of a key says, or what is wrong with it.
+
 ghost use Rattle.std.specs.Prelude.{◌≡◌, ◌≤◌, None, IfOk, IfSome, MatchOption, is_some, option_map, map};
 ghost use Rattle.std.specs.List.{list_all};
 ghost use Rattle.toml.specs.Data.{as_integer, as_str};

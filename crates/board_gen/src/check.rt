@@ -1,4 +1,5 @@
-// Whether a text is a script: its first fault. Nothing is kept of its lines.
+//! Whether a text is a script: its first fault. Nothing is kept of its lines.
+
 ghost use Rattle.std.specs.Prelude.{◌≡◌, ◌≤◌, ◌<◌, ◌+◌, ◌^◌, List, IfOk, IfErr, length};
 ghost use Rattle.chip_sheet.specs.Replay.{Step};
 ghost use Rattle.board_gen.specs.Script.{script_lines, script_of};

@@ -1,4 +1,5 @@
-// Why a text gives no script.
+//! Why a text gives no script.
+
 ghost use Rattle.std.specs.Prelude.{◌≡◌};
 ghost use Rattle.board_gen.specs.declared.fault.ReadError.TheVariants.{Fault, NoMemory};
 

@@ -1,4 +1,5 @@
-// How a script begins.
+//! How a script begins.
+
 ghost use Rattle.std.specs.Prelude.{◌≡◌, ◌≤◌, ◌+◌, Err, IfOk, IfErr, length};
 ghost use Rattle.board_gen.specs.Script.{head, behind_start, pointers, script_of};
 ghost use Rattle.board_gen.specs.Heads.{head_said, script_begun};

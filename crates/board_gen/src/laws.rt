@@ -1,4 +1,5 @@
-// Laws of the format, each the contract of an empty function.
+//! Laws of the format, each the contract of an empty function.
+
 ghost use Rattle.board_gen.specs.Faults.{FaultsAreFirst, ReadsEachLine};
 ghost use Rattle.board_gen.specs.Replayed.{LinesAreTold};
 
@@ -12,8 +13,8 @@ pub fn reads_each_line()
     ensures { ReadsEachLine }
 {}
 
-/// The history of lines that run, and their end, are those of all of their steps one after another, up to the first that has a stop
-/// or does not fit.
+/// The history of lines that run, and their end, are those of all of their steps one after another, up to the first that has a
+/// stop or does not fit.
 pub fn lines_are_told()
     ensures { LinesAreTold }
 {}

@@ -1,4 +1,5 @@
-// Takes the steps of a line, one after another.
+//! Takes the steps of a line, one after another.
+
 ghost use Rattle.std.specs.Prelude.{◌≡◌, ◌+◌, [], Some, None, IfOk, OnOk, length, IsSome};
 ghost use Rattle.chip_sheet.specs.Replay.{told};
 ghost use Rattle.board_gen.specs.Tokens.{steps, token_step, tokens};

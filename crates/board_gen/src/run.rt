@@ -1,4 +1,5 @@
-// Runs the lines of a script, one after another.
+//! Runs the lines of a script, one after another.
+
 ghost use Rattle.std.specs.Prelude.{◌≡◌, ◌<◌, ◌+◌, ◌^◌, [], None, OnOk, Option, List, ℕ, length, IsSome};
 ghost use Rattle.wz_base.specs.Outside.{RisesOnly};
 ghost use Rattle.chip_sheet.specs.Past.{Past};
@@ -122,8 +123,8 @@ fn run_lines<K: Sink>(
     ScriptStop::Done
 }
 
-/// Runs lines that are read, the first of which has this number, up to the first that does not come to its end. The lines of their
-/// answers are gathered in the buffer, and written in pieces of whole lines.
+/// Runs lines that are read, the first of which has this number, up to the first that does not come to its end. The lines of
+/// their answers are gathered in the buffer, and written in pieces of whole lines.
 pub fn run_script<K: Sink>(
     alloc: Global,
     session: &mut Session,

@@ -72,15 +72,15 @@ fn run_read<K: Sink>(alloc: Global, begins: Beginning<'_>, out: &mut K) -> Scrip
     }
 }
 
-/// Runs a script of at most 67,108,864 bytes, and writes the answers of its bytes and looks: a line for each of its lines that has
-/// some. A stop of the chip is written as a line `stop NAME` with its values. Nothing is kept of the text's lines.
+/// Runs a script of at most 67,108,864 bytes, and writes the answers of its bytes and looks: a line for each of its lines that
+/// has some. A stop of the chip is written as a line `stop NAME` with its values. Nothing is kept of the text's lines.
 ///
 /// # Ends
 ///
-/// `Fault` exactly where the text is no script, by its first fault, and nothing runs or is written then; or where a link event does
-/// not fit, in its line: what came before is written. `Chip` exactly where an event has that stop. `WriteFault` exactly where the
-/// sink's count of faults rose; then what was written is a front of the text, and the history one of the whole history. `NoMemory`
-/// may come at any time, with the same kept.
+/// `Fault` exactly where the text is no script, by its first fault, and nothing runs or is written then; or where a link event
+/// does not fit, in its line: what came before is written. `Chip` exactly where an event has that stop. `WriteFault` exactly
+/// where the sink's count of faults rose; then what was written is a front of the text, and the history one of the whole history.
+/// `NoMemory` may come at any time, with the same kept.
 pub fn script<K: Sink>(alloc: Global, text: &[u8], out: &mut K) -> ScriptEnd
     requires { length text.now ≤ 2 * WEIGHT_LIMIT }
     ensures shows { Shows (shown text.now) result.end result.history.past (K.written out.old) (K.written out.new) }

@@ -1,4 +1,5 @@
-// A chip with its history.
+//! A chip with its history.
+
 ghost use Rattle.std.specs.Prelude.{◌≡◌, ◌<◌, [], ◌∷◌, None, Some, IfOk, OnOk, OnErr, IfErr, false, true, length};
 ghost use Rattle.board_bus.specs.declared.event.BusAnswer.{BusAnswer};
 ghost use Rattle.chip_sheet.specs.declared.event.Entry.TheVariants.{Link};
@@ -19,7 +20,8 @@ use chip_sheet::stop::ChipStop;
 use std::alloc::{AllocError, Global};
 use std::marker::Model;
 
-/// How much the history of a script is meant to hold, in units of weight. The script of a text of 67,108,864 bytes never has more.
+/// How much the history of a script is meant to hold, in units of weight. The script of a text of 67,108,864 bytes never has
+/// more.
 pub const WEIGHT_LIMIT: u64 = 33_554_432;
 
 /// Why a script does not go on.

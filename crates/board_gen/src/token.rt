@@ -1,4 +1,5 @@
-// The tokens of a script.
+//! The tokens of a script.
+
 ghost use Rattle.std.specs.Prelude.{◌≡◌, ◌<◌};
 
 use chip_sheet::event::{Addr, BusEvent, LinkWhat};

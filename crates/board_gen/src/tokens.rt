@@ -1,4 +1,5 @@
-// The tokens of scripts.
+//! The tokens of scripts.
+
 ghost use Rattle.std.specs.Prelude.{◌≡◌, IfOk, option_map};
 ghost use Rattle.board_gen.specs.Tokens.{letter, byte_read, token_step};
 ghost use Rattle.hex.specs.Hex.{decode_sized};

@@ -154,8 +154,8 @@ fn in_peer_or_file(file: &Table, fault: BoardFault) -> Found<'_> {
     }
 }
 
-/// The table in which the first fault of a file stands: tables are judged in the order listen, route, peer, and last the file's own
-/// unknown keys.
+/// The table in which the first fault of a file stands: tables are judged in the order listen, route, peer, and last the file's
+/// own unknown keys.
 pub fn place_of(file: &Table, fault: BoardFault) -> Found<'_> {
     if has(Place::File, fault.key.word()) {
         return Found {

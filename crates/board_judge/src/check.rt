@@ -1,4 +1,5 @@
-// Whether a text is a trace: its first fault. Nothing is kept of its lines.
+//! Whether a text is a trace: its first fault. Nothing is kept of its lines.
+
 ghost use Rattle.std.specs.Prelude.{◌≡◌, ◌≤◌, ◌<◌, ◌+◌, ◌^◌, Err, IfOk, IfErr, length};
 ghost use Rattle.chip_sheet.specs.declared.event.Entry.{Entry};
 ghost use Rattle.board_gen.specs.Views.{Errs};
@@ -67,8 +68,8 @@ impl LineFormat for TraceFormat {
 ///
 /// # Errors
 ///
-/// `Fault` exactly where the text is no trace: its first fault, a `BadHead` in line 1 or the first line with a `BadToken`. `NoMemory`
-/// where memory is not there.
+/// `Fault` exactly where the text is no trace: its first fault, a `BadHead` in line 1 or the first line with a `BadToken`.
+/// `NoMemory` where memory is not there.
 pub fn check(alloc: Global, text: &[u8]) -> Result<Beginning<'_>, ReadError>
     requires { length text.now + 2 < 2 ^ 32 }
     ensures begun { IfOk result (λ b. trace_of text.now ≡ trace_begun b) }

@@ -1,4 +1,5 @@
-// What the chip says of an event that was written down.
+//! What the chip says of an event that was written down.
+
 ghost use Rattle.std.specs.Prelude.{◌≡◌, ◌∷◌, None, length};
 ghost use Rattle.chip_sheet.specs.Past.{Past, entry_of};
 ghost use Rattle.chip_sheet.specs.Streams.{Starts};

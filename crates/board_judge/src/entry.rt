@@ -1,4 +1,5 @@
-// The entry of a line.
+//! The entry of a line.
+
 ghost use Rattle.std.specs.Prelude.{◌≡◌, IfOk, option_map};
 ghost use Rattle.board_gen.specs.Links.{link};
 ghost use Rattle.board_gen.specs.Views.{step_of};

@@ -1,4 +1,5 @@
-// The first line of a trace.
+//! The first line of a trace.
+
 ghost use Rattle.std.specs.Prelude.{◌≡◌, ◌==◌, ◌∷◌, option_map};
 ghost use Rattle.std.specs.List.{slice_split};
 ghost use Rattle.board_judge.specs.Trace.{pointers, two_numbers, numbers, head};
@@ -49,8 +50,8 @@ fn numbers(text: &[u8]) -> Option<StartPointers>
     }
 }
 
-/// Where the positions of connections start, by the first line of a trace; `None` exactly where it is not `w5500 trace 1 TX RX` with
-/// two numbers of 0 to 65535 without leading zeros.
+/// Where the positions of connections start, by the first line of a trace; `None` exactly where it is not `w5500 trace 1 TX RX`
+/// with two numbers of 0 to 65535 without leading zeros.
 pub fn head(line: &[u8]) -> Option<StartPointers>
     ensures { option_map starts_said result ≡ head line.now }
 {

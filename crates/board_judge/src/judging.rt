@@ -98,16 +98,16 @@ fn judge_read<K: Sink>(alloc: Global, begins: Beginning<'_>, out: &mut K) -> Jud
 }
 
 /// Judges a trace of at most 67,108,864 bytes, and writes the verdict, one line: `legal N` for a history of N events that the
-/// datasheet allows, and else the first place that it does not, from 0: `differs P EXPECTED FOUND` where the chip answers otherwise,
-/// `unfit P` where a link event does not fit, `stops P NAME` with the values where an event of the bus has a stop. Nothing is kept of
-/// the text but the chip and the history.
+/// datasheet allows, and else the first place that it does not, from 0: `differs P EXPECTED FOUND` where the chip answers
+/// otherwise, `unfit P` where a link event does not fit, `stops P NAME` with the values where an event of the bus has a stop.
+/// Nothing is kept of the text but the chip and the history.
 ///
 /// # Ends
 ///
-/// `Done` exactly where the text is a trace of a history that the datasheet allows. `Fault` exactly where the text is no trace, by its
-/// first fault, and nothing is judged or written then. `Judged` exactly at the first place that is not allowed; the history is what
-/// comes before it. `WriteFault` exactly where the sink's count of faults rose; then what was written is a front of the text.
-/// `NoMemory` may come at any time; then nothing is written, and the history is a front of the whole one.
+/// `Done` exactly where the text is a trace of a history that the datasheet allows. `Fault` exactly where the text is no trace,
+/// by its first fault, and nothing is judged or written then. `Judged` exactly at the first place that is not allowed; the
+/// history is what comes before it. `WriteFault` exactly where the sink's count of faults rose; then what was written is a front
+/// of the text. `NoMemory` may come at any time; then nothing is written, and the history is a front of the whole one.
 pub fn judge<K: Sink>(alloc: Global, text: &[u8], out: &mut K) -> JudgeEnd
     requires { length text.now ≤ 2 * WEIGHT_LIMIT }
     ensures shows { Shows (shown text.now) result.end result.history.past (K.written out.old) (K.written out.new) }

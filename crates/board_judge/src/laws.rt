@@ -11,8 +11,8 @@ pub fn reads_each_line()
     ensures { ReadsEachLine }
 {}
 
-/// A verdict is `legal` exactly where the datasheet allows the whole history, and else names the first place that it does not allow:
-/// all before it is allowed, and what stands there is not.
+/// A verdict is `legal` exactly where the datasheet allows the whole history, and else names the first place that it does not
+/// allow: all before it is allowed, and what stands there is not.
 pub fn verdicts_hold()
     ensures verdicts { VerdictsHold }
     ensures legal { LegalsAreDone }

@@ -1,4 +1,5 @@
-// Traces cut into lines, one after another, without memory.
+//! Traces cut into lines, one after another, without memory.
+
 ghost use Rattle.std.specs.Prelude.{◌≡◌, ◌==◌, ◌<◌, ◌≤◌, ◌+◌, ◌∷◌, [], length, IfSome, MatchOption};
 ghost use Rattle.std.specs.List.{slice_split};
 ghost use Rattle.board_judge.specs.Trace.{trace_lines};
@@ -16,8 +17,8 @@ fn last_line(text: &[u8]) -> Option<&[u8]>
     if text.is_empty() { None } else { Some(text) }
 }
 
-/// The first line of a text, and the text behind it; `None` where it has none. An empty last part is no line, and only a line that
-/// ends with a line feed loses its carriage return.
+/// The first line of a text, and the text behind it; `None` where it has none. An empty last part is no line, and only a line
+/// that ends with a line feed loses its carriage return.
 pub fn first_line(text: &[u8]) -> Option<(&[u8], &[u8])>
     ensures lines { MatchOption result (trace_lines text.now ≡ []) (λ p. trace_lines text.now ≡ p.0.now ∷ trace_lines p.1.now) }
     ensures shorter { IfSome result (λ p. length p.1.now < length text.now) }

@@ -1,4 +1,5 @@
-// Judges the entries of a trace, one after another.
+//! Judges the entries of a trace, one after another.
+
 ghost use Rattle.std.specs.Prelude.{◌≡◌, ◌≤◌, ◌*◌, [], Some, IfOk, OnOk, IsSome, length};
 ghost use Rattle.chip_sheet.specs.Past.{entry_of};
 ghost use Rattle.chip_sheet.specs.Legal.{Legal};

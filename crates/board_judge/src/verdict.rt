@@ -1,4 +1,5 @@
-// What is printed of a judged history.
+//! What is printed of a judged history.
+
 ghost use Rattle.std.specs.Prelude.{◌≡◌, ◌++◌, ◌∷◌, OnOk, IfOk, string_bytes};
 ghost use Rattle.board_text.specs.Entries.{byte_text};
 ghost use Rattle.board_judge.specs.Shown.{differs_text, stops_text, verdict_text};
@@ -35,8 +36,8 @@ fn stops_text(alloc: Global, place: u64, stop: ChipStop) -> Result<Vec<u8>, Allo
     Ok(format!(in alloc; "stops {place} {stop}\n")?.into_bytes())
 }
 
-/// The line of a verdict, with its line feed: of a history of so many events that the datasheet allows, or of the first place that it
-/// does not.
+/// The line of a verdict, with its line feed: of a history of so many events that the datasheet allows, or of the first place
+/// that it does not.
 ///
 /// # Errors
 ///

@@ -64,7 +64,8 @@ fn judge_both(alloc: Global, image: &[u8], board: &[u8]) -> Result<(Image, Board
 ///
 /// # Errors
 ///
-/// `Refused` exactly by what was read, and else by the first fault of the texts, that of an image before that of a board; `NoMemory`.
+/// `Refused` exactly by what was read, and else by the first fault of the texts, that of an image before that of a board;
+/// `NoMemory`.
 pub fn load_both<F: Files>(
     alloc: Global,
     files: &mut F,

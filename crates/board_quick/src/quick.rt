@@ -87,19 +87,20 @@ fn run_words<F: Files, K: Sink>(
     }
 }
 
-/// Does what the words ask, those after the program's name, where they are no live run: it waits for nobody and returns. It answers `None`
-/// exactly where they are one, and then it has asked nothing of files and sink.
+/// Does what the words ask, those after the program's name, where they are no live run: it waits for nobody and returns. It
+/// answers `None` exactly where they are one, and then it has asked nothing of files and sink.
 ///
 /// # Ends
 ///
 /// `Usage` exactly where the words are no written form. `NoFile`, `ReadFault` and `TooLong` of an operand, each by its cause; the
-/// second operand is read only where the first was. `Hex`, `Board` and `Script` exactly by the first fault of the text, that of an
-/// image before that of a board; a script's text is found faulty before anything runs, but for a link event that does not fit, and a
-/// trace's before anything is judged. `Judged` exactly at the first event of a trace that the datasheet does not allow. `Chip` of a
-/// script exactly where an event of it has that stop. `Break`, `Sleep`, `CycleLimit`, `Avr`, `Chip` and `TraceFull` of a run exactly as
-/// the schedule of the image on the board ends, which is one function of both. `WriteFault` exactly where the sink's count of faults
-/// rose; then what was written is a prefix of the text, and the history a prefix of the whole history: where a serial byte of a run
-/// failed, that up to the step that printed it. `NoMemory` may come at any time, behind a prefix of the text. `PollFault` never comes.
+/// second operand is read only where the first was. `Hex`, `Board` and `Script` exactly by the first fault of the text, that of
+/// an image before that of a board; a script's text is found faulty before anything runs, but for a link event that does not fit,
+/// and a trace's before anything is judged. `Judged` exactly at the first event of a trace that the datasheet does not allow.
+/// `Chip` of a script exactly where an event of it has that stop. `Break`, `Sleep`, `CycleLimit`, `Avr`, `Chip` and `TraceFull`
+/// of a run exactly as the schedule of the image on the board ends, which is one function of both. `WriteFault` exactly where the
+/// sink's count of faults rose; then what was written is a prefix of the text, and the history a prefix of the whole history:
+/// where a serial byte of a run failed, that up to the step that printed it. `NoMemory` may come at any time, behind a prefix of
+/// the text. `PollFault` never comes.
 pub fn quick<F: Files, K: Sink>(
     alloc: Global,
     words: &[String],
@@ -112,8 +113,8 @@ pub fn quick<F: Files, K: Sink>(
     ensures legal { IfSome result (λ r. IsLegal r.history.past) }
     ensures status { IfSome result (λ r. r.status ≡ status_of r.end) }
 
-    // Scripted peers stand where a run was asked for and made them, and they agree with the history; only such a run has a run's ends, and
-    // no poll is made.
+    // Scripted peers stand where a run was asked for and made them, and they agree with the history; only such a run has a run's
+    // ends, and no poll is made.
     ensures scripted { IfSome result (λ r. IfSome r.script (λ links. asks_run (command_of (map string_bytes words.now)) ≡ true)) }
     ensures tied { IfSome result (λ r. IfSome r.script (λ links. IsTied r.history.past links)) }
     ensures made { IfSome result (λ r. IsOfRun r.end → IsSome r.script) }

@@ -1,3 +1,5 @@
+//! Rows of the echo server's words.
+
 use board_bus::BusEvent;
 use board_echo::*;
 use flash::Image;

@@ -1,3 +1,5 @@
+//! Rows of what texts are read from.
+
 use board_read::bytes::bytes;
 use board_read::numbers::{address, count, pointer, port};
 use std::test::Fail;

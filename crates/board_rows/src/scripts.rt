@@ -1,3 +1,5 @@
+//! Rows of scripts.
+
 use board_gen::{ScriptFault, ScriptKind, ScriptStop, script};
 use std::alloc::Global;
 use std::test::Fail;

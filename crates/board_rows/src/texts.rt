@@ -1,3 +1,5 @@
+//! Rows of printed texts.
+
 use avr_core::AvrStop;
 use avr_sheet::DeviceStop;
 use board_bus::{BusAnswer, BusEvent};

@@ -1,3 +1,5 @@
+//! Rows of traces.
+
 use board_judge::judge;
 use std::alloc::Global;
 use std::test::Fail;

@@ -31,7 +31,8 @@ use link_trait::links::Links;
 use std::alloc::Global;
 use wz_base::Sink;
 
-/// The state that both passes leave. Its events of the bus are the first pass's, and the cause with which that pass ended has its reason.
+/// The state that both passes leave. Its events of the bus are the first pass's, and the cause with which that pass ended has its
+/// reason.
 fn gather<L: Links>(
     turn: Turn<L>,
     firmware: Pass<L>,
@@ -79,8 +80,8 @@ fn close<L: Links>(shared: &mut Shared<L>, end: RunEnd) -> RunEnd
     }
 }
 
-/// The end of a run whose last step ended it. After a `break`, a `sleep` from which nothing wakes, and the limit of cycles, closing is
-/// made.
+/// The end of a run whose last step ended it. After a `break`, a `sleep` from which nothing wakes, and the limit of cycles,
+/// closing is made.
 fn end_step<L: Links>(
     shared: &mut Shared<L>,
     end: FirmwareEnd,

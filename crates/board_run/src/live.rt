@@ -181,16 +181,17 @@ fn run<
     leave(alloc, ended, mcu, last, poller, out)
 }
 
-/// Runs an image on a board, whose links are these, with the board's routes and listens. The firmware runs in the caller's thread, and a
-/// thread of its own serves the links and waits with the poller; where none can be started, both go on by turns on the caller's. The gate
-/// is passed before each event of the bus and after each step of the links, outside of their turns. Each byte that the firmware prints is
-/// written in the step that printed it, and behind the run comes its report. The board's peers are not used.
+/// Runs an image on a board, whose links are these, with the board's routes and listens. The firmware runs in the caller's
+/// thread, and a thread of its own serves the links and waits with the poller; where none can be started, both go on by turns on
+/// the caller's. The gate is passed before each event of the bus and after each step of the links, outside of their turns. Each
+/// byte that the firmware prints is written in the step that printed it, and behind the run comes its report. The board's peers
+/// are not used.
 ///
-/// What it leaves is one history, legal and agreed with by the links, whatever the order of turns: on exactly its answers the firmware's run
-/// is the instruction table's, and the text is that of history, run and end. After `Break`, `Sleep` and `CycleLimit` what is in flight is
-/// offered to the links. `WriteFault` comes exactly where the sink's count of faults rose, and `PollFault` only where the poller's did: behind
-/// each, as behind `TraceFull` and `Chip`, the firmware stands at an event without an answer, or has not ended. `NoMemory` may come at any
-/// time, behind a prefix of the text.
+/// What it leaves is one history, legal and agreed with by the links, whatever the order of turns: on exactly its answers the
+/// firmware's run is the instruction table's, and the text is that of history, run and end. After `Break`, `Sleep` and
+/// `CycleLimit` what is in flight is offered to the links. `WriteFault` comes exactly where the sink's count of faults rose, and
+/// `PollFault` only where the poller's did: behind each, as behind `TraceFull` and `Chip`, the firmware stands at an event
+/// without an answer, or has not ended. `NoMemory` may come at any time, behind a prefix of the text.
 ///
 /// It may wait for its turns, and returns only where firmware, chip, poller or sink end the run.
 pub fn live<

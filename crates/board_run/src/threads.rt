@@ -1,4 +1,5 @@
-//! Both sides of a live run: the firmware in the caller's thread, and the links in a thread of their own where one can be started.
+//! Both sides of a live run: the firmware in the caller's thread, and the links in a thread of their own where one can be
+//! started.
 ghost use Rattle.std.specs.Prelude.{◌≡◌, ◌≤◌, ◌^◌, None};
 ghost use Rattle.std.specs.Thread.{IsSend, IsSync};
 ghost use Rattle.wz_base.specs.Outside.{RisesOnly};

@@ -52,8 +52,8 @@ impl Play {
         }
     }
 
-    /// Behind the events of a step, or of steps that asked nothing: counts the instructions, writes the byte, and takes the end of the run
-    /// or makes the sweep that is due.
+    /// Behind the events of a step, or of steps that asked nothing: counts the instructions, writes the byte, and takes the end
+    /// of the run or makes the sweep that is due.
     fn settle<K: Sink>(
         &mut self,
         instructions: u64,

@@ -215,8 +215,8 @@ fn count(history: &History) -> Counts
 
 /// The report of a run.
 ///
-/// Its chip stands for the history, `last` is the last byte that it printed, and it ended so. The cycles and the last instructions that
-/// were started are those of `mcu`.
+/// Its chip stands for the history, `last` is the last byte that it printed, and it ended so. The cycles and the last
+/// instructions that were started are those of `mcu`.
 ///
 /// # Errors
 ///

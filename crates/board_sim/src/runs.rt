@@ -163,12 +163,12 @@ fn unmade(alloc: Global, events: u64) -> SimEnd
     }
 }
 
-/// Runs an image on a board with scripted peers. Each byte that the firmware prints is written in the step that printed it, and behind
-/// the run comes its report. It uses neither the listens nor the routes of the board.
+/// Runs an image on a board with scripted peers. Each byte that the firmware prints is written in the step that printed it, and
+/// behind the run comes its report. It uses neither the listens nor the routes of the board.
 ///
-/// What it leaves is one function of the image and the board: the schedule's history, peers, cycles, end and text. `WriteFault` comes
-/// exactly where the sink's count of faults rose: then a prefix of the text was written, and where a serial byte failed, the history is
-/// that up to the step that printed it. `NoMemory` may come at any time, behind a prefix of the text.
+/// What it leaves is one function of the image and the board: the schedule's history, peers, cycles, end and text. `WriteFault`
+/// comes exactly where the sink's count of faults rose: then a prefix of the text was written, and where a serial byte failed,
+/// the history is that up to the step that printed it. `NoMemory` may come at any time, behind a prefix of the text.
 pub fn sim<K: Sink>(alloc: Global, image: Image, board: Board, out: &mut K) -> SimEnd
     requires { IsWithinLimits board }
     ensures { Sims image board result (K.written out.old) (K.written out.new) (K.faults out.old) (K.faults out.new) }
@@ -222,11 +222,11 @@ fn end_traced<K: Sink>(
     }
 }
 
-/// Runs an image on a board as [`sim`] does, but prints no serial byte and no report: behind the run, whatever its end but `NoMemory`,
-/// it writes the trace of the history. Its end is the run's.
+/// Runs an image on a board as [`sim`] does, but prints no serial byte and no report: behind the run, whatever its end but
+/// `NoMemory`, it writes the trace of the history. Its end is the run's.
 ///
-/// `WriteFault` comes exactly where the sink's count of faults rose, and `NoMemory` may come at any time: then a prefix of the trace was
-/// written.
+/// `WriteFault` comes exactly where the sink's count of faults rose, and `NoMemory` may come at any time: then a prefix of the
+/// trace was written.
 pub fn trace<K: Sink>(alloc: Global, image: Image, board: Board, out: &mut K) -> SimEnd
     requires { IsWithinLimits board }
     ensures { TracesRun image board result (K.written out.old) (K.written out.new) (K.faults out.old) (K.faults out.new) }

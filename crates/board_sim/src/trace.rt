@@ -80,13 +80,13 @@ fn add_entries<K: Sink>(
     Ok(())
 }
 
-/// Writes the trace of a history of a chip whose positions of connections begin so. The lines are gathered and written in pieces of whole
-/// lines, so that no more memory is taken than for a piece and the longest line.
+/// Writes the trace of a history of a chip whose positions of connections begin so. The lines are gathered and written in pieces
+/// of whole lines, so that no more memory is taken than for a piece and the longest line.
 ///
 /// # Errors
 ///
-/// `WriteFault` only where the sink's count of faults rose, and `NoMemory` for want of memory alone. A prefix of the trace was then
-/// written.
+/// `WriteFault` only where the sink's count of faults rose, and `NoMemory` for want of memory alone. A prefix of the trace was
+/// then written.
 pub fn write_trace<K: Sink>(
     alloc: Global,
     history: &History,

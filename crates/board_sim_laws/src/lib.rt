@@ -12,8 +12,8 @@ pub fn history_grows()
     ensures run { RunAdds }
 {}
 
-/// Where a run stands between two steps, its history and what it printed begin those of the whole run, and so they do after the next
-/// step.
+/// Where a run stands between two steps, its history and what it printed begin those of the whole run, and so they do after the
+/// next step.
 pub fn way_leads()
     ensures { WayLeads }
 {}

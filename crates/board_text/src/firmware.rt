@@ -40,8 +40,8 @@ fn device_text(alloc: Global, stop: DeviceStop) -> Result<String, AllocError>
     }
 }
 
-/// The name of a stop and its values in decimal, in the order of its fields, with one space between. What a device says stands behind
-/// the word address in the same way: `Device 12 TimerMode 0 4`.
+/// The name of a stop and its values in decimal, in the order of its fields, with one space between. What a device says stands
+/// behind the word address in the same way: `Device 12 TimerMode 0 4`.
 ///
 /// # Errors
 ///

@@ -119,21 +119,23 @@ fn perform<
     }
 }
 
-/// Does what the words ask, those after the program's name: it is [`quick`], or for a `run` the live run of the image on the board over
-/// these links, on two threads; then it may wait, and owes no return. No connection of the links was made yet. Where no live run began
-/// (other words, a refusal, no memory for it), links and poller come back as they were.
+/// Does what the words ask, those after the program's name: it is [`quick`], or for a `run` the live run of the image on the
+/// board over these links, on two threads; then it may wait, and owes no return. No connection of the links was made yet. Where
+/// no live run began (other words, a refusal, no memory for it), links and poller come back as they were.
 ///
 /// # Ends
 ///
-/// Of other words those of [`quick`]. Of a `run` first `NoFile`, `ReadFault`, `TooLong`, `Hex` and `Board`, by what was read and by the
-/// texts, as there; else the end of the live run. By the firmware's run is meant that of the instruction table on exactly the answers of
-/// the history. `Break`, `Sleep`, `CycleLimit` and `Avr` come exactly where that run ends so, unless a write failed or memory ran out.
-/// `Chip` comes where it wants an event more, which has this stop after all that happened; `TraceFull` where it wants one and the history
-/// is full; `PollFault` where it wants one and the poller's count of faults rose. `WriteFault` comes exactly where the sink's count of
-/// faults rose, behind a prefix of the text. `NoMemory` may come at any time, behind a prefix of the text. No other end comes.
+/// Of other words those of [`quick`]. Of a `run` first `NoFile`, `ReadFault`, `TooLong`, `Hex` and `Board`, by what was read and
+/// by the texts, as there; else the end of the live run. By the firmware's run is meant that of the instruction table on exactly
+/// the answers of the history. `Break`, `Sleep`, `CycleLimit` and `Avr` come exactly where that run ends so, unless a write
+/// failed or memory ran out. `Chip` comes where it wants an event more, which has this stop after all that happened; `TraceFull`
+/// where it wants one and the history is full; `PollFault` where it wants one and the poller's count of faults rose. `WriteFault`
+/// comes exactly where the sink's count of faults rose, behind a prefix of the text. `NoMemory` may come at any time, behind a
+/// prefix of the text. No other end comes.
 ///
-/// So where no call of files, sink and poller fails, each form of words has the end that its texts say, or `NoMemory`; and a `run` of an
-/// image and a board without a fault has the firmware's own, or at an event that got no answer the chip's stop or a full history.
+/// So where no call of files, sink and poller fails, each form of words has the end that its texts say, or `NoMemory`; and a
+/// `run` of an image and a board without a fault has the firmware's own, or at an event that got no answer the chip's stop or a
+/// full history.
 pub fn top<
     R: Threads + Wait + Sync,
     F: Files,
@@ -156,8 +158,8 @@ pub fn top<
     ensures legal { IsLegal result.history.past }
     ensures status { result.status ≡ status_of result.end }
 
-    // But for a `run`, links and poller are as they were. Scripted peers stand where a scripted run was asked for and made them, and they
-    // agree with the history; only such a run or a `run` has a run's ends.
+    // But for a `run`, links and poller are as they were. Scripted peers stand where a scripted run was asked for and made them,
+    // and they agree with the history; only such a run or a `run` has a run's ends.
     ensures unlinked { asks_live (command_of (map string_bytes words.now)) ≡ false → (result.links ≡ links) × (result.poller ≡ poller) }
     ensures scripted { IfSome result.script (λ script. asks_run (command_of (map string_bytes words.now)) ≡ true) }
     ensures tied { IfSome result.script (λ script. IsTied result.history.past script) }
@@ -172,8 +174,8 @@ pub fn top<
     ensures poll_faults { result.end ≡ EndKind.PollFault → (asks_live (command_of (map string_bytes words.now)) ≡ true) × Rose (P.faults poller) (P.faults result.poller) }
     ensures polls { P.faults poller ≤ P.faults result.poller }
 
-    // Where the files are told, and no call of files, sink and poller fails, memory ran out, or the end is that of the words, of what the
-    // files hold, and of the firmware's run.
+    // Where the files are told, and no call of files, sink and poller fails, memory ran out, or the end is that of the words, of
+    // what the files hold, and of the firmware's run.
     ensures complete { (held : List ℕ → Option (List ℕ)) → F.held files.old ≡ Some held
         → (Rose (F.faults files.old) (F.faults files.new) → ⊥) → (Rose (K.faults out.old) (K.faults out.new) → ⊥) → (Rose (P.faults poller) (P.faults result.poller) → ⊥)
         → (result.end ≡ EndKind.NoMemory) ⊎ Completes held (command_of (map string_bytes words.now)) result.history.past result.end }

@@ -1,3 +1,5 @@
+//! The chip: events of the bus and of its links, one after another.
+
 ghost use Rattle.std.specs.Prelude.{◌≡◌, ◌<◌, ◌≤◌, [], ◌∷◌, ◌++◌, length, take, true, None, Some, IfOk, IfErr};
 ghost use Rattle.std.specs.Borrow.{sem};
 ghost use Rattle.board_bus.specs.declared.event.BusEvent.TheVariants.{Byte};
@@ -49,8 +51,8 @@ pub struct Chip {
 impl Chip {
     ghost use Rattle.chip_core.specs.Chip.{Stands, Few, Answered, Stopped, Inside, stop_kept, starts_of, fits_here, room_len, room_bytes, LendsRoom, tally_at, Exchanges, ReadsOut};
 
-    /// The chip after power-on, which stands for the empty history. The positions of what a connection sends begin at `tx_start`, and
-    /// those of what it receives at `rx_start`. No later call takes memory.
+    /// The chip after power-on, which stands for the empty history. The positions of what a connection sends begin at `tx_start`,
+    /// and those of what it receives at `rx_start`. No later call takes memory.
     ///
     /// # Errors
     ///
@@ -185,7 +187,8 @@ impl Chip {
         calls::due(&self.parts, place)
     }
 
-    /// Lends the bytes in flight of a socket, 0 to 7, in order, in at most two pieces. A stream sends the first; a datagram is both.
+    /// Lends the bytes in flight of a socket, 0 to 7, in order, in at most two pieces. A stream sends the first; a datagram is
+    /// both.
     pub fn offer(&self, sn: u8) -> (&[u8], &[u8])
         requires { sn < 8 }
         ensures bytes { (starts : Starts) (past : Past) → Stands starts self.now past → result.0.now ++ result.1.now ≡ in_flight starts past sn }
@@ -205,7 +208,8 @@ impl Chip {
         bytes::room(&mut self.parts, sn)
     }
 
-    /// The first k bytes of the piece that `room` lends came from the peer of a socket, 0 to 7. No stop is kept, and the event fits.
+    /// The first k bytes of the piece that `room` lends came from the peer of a socket, 0 to 7. No stop is kept, and the event
+    /// fits.
     pub fn filled(&mut self, sn: u8, k: u32)
         requires sn { sn < 8 }
         requires few { Few self.old }

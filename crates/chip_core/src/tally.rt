@@ -1,3 +1,5 @@
+//! What is counted of a socket over all of its lives.
+
 /// The state of a socket, and its counts over all of its lives.
 #[derive(Clone, Copy, Debug, PartialEq, Eq)]
 pub struct Tally {

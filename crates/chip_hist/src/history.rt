@@ -62,7 +62,8 @@ impl Model for History {
 }
 
 impl History {
-    /// An empty history, which takes no memory. `limit` is in units of weight, 1 to [`HIGHEST_LIMIT`](crate::limits::HIGHEST_LIMIT).
+    /// An empty history, which takes no memory. `limit` is in units of weight, 1 to
+    /// [`HIGHEST_LIMIT`](crate::limits::HIGHEST_LIMIT).
     pub fn new(alloc: Global, limit: u64) -> History
         requires { (1 ≤ limit) × (limit ≤ HIGHEST_LIMIT) }
         ensures past { result.past ≡ [] }

@@ -59,8 +59,8 @@ pub fn released_within_got()
     ensures { (starts : Starts) (past : Past) (n life : ℕ) → Legal starts past → released starts past n life ≤ length (got starts past n life) }
 {}
 
-/// After a reset of the chip every socket is closed, nothing is in flight or unread, and each buffer reads 00 at every address. The
-/// numbers of the lives stay.
+/// After a reset of the chip every socket is closed, nothing is in flight or unread, and each buffer reads 00 at every address.
+/// The numbers of the lives stay.
 pub fn reset_empties()
     ensures closed { (past : Past) (entry : Entry) (n : ℕ) → is_reset (access_of past entry) ≡ true → status (entry ∷ past) n ≡ Closed }
     ensures windows { (starts : Starts) (past : Past) (entry : Entry) (n : ℕ) → is_reset (access_of past entry) ≡ true → (flight starts (entry ∷ past) n ≡ 0) × (unread starts (entry ∷ past) n ≡ 0) }
@@ -80,8 +80,8 @@ pub fn in_flight_exact()
     ensures { (starts : Starts) (past : Past) (n addr : ℕ) → IsSome (in_flight_at starts past n addr) ↔ HasInFlight starts past n addr }
 {}
 
-/// In a legal history the sizes of both directions' buffers stay as they are with each entry that leaves some socket open, and with
-/// each that finds one open and is no reset of the chip.
+/// In a legal history the sizes of both directions' buffers stay as they are with each entry that leaves some socket open, and
+/// with each that finds one open and is no reset of the chip.
 pub fn sizes_stay()
     ensures leaves { (starts : Starts) (past : Past) (entry : Entry) (n k : ℕ) → n < 8 → Legal starts (entry ∷ past) → is_closed (status (entry ∷ past) n) ≡ false → SizesStay past entry k }
     ensures finds { (starts : Starts) (past : Past) (entry : Entry) (n k : ℕ) → n < 8 → Legal starts (entry ∷ past) → is_closed (status past n) ≡ false
@@ -105,15 +105,15 @@ pub fn received_reads_back()
         → ReadsGot starts past n q addr }
 {}
 
-/// What is nothing for a socket leaves its life, lists, windows and what it keeps for the link; and what does not touch the socket,
-/// by no command, event, write or change of a size, leaves all of it.
+/// What is nothing for a socket leaves its life, lists, windows and what it keeps for the link; and what does not touch the
+/// socket, by no command, event, write or change of a size, leaves all of it.
 pub fn others_stay()
     ensures life { (starts : Starts) (past : Past) (entry : Entry) (n : ℕ) → cause past n entry ≡ Nothing → LeavesLife starts past entry n }
     ensures all { (starts : Starts) (past : Past) (entry : Entry) (n : ℕ) → Untouched past entry n → LeavesAll starts past entry n }
 {}
 
-/// The interrupt registers as bits: a bit of Sn_IR reads 1 exactly where it is raised; a socket asks exactly where `Sn_IR & Sn_IMR` is
-/// not 0; bit n of SIR reads 1 exactly where socket n asks; INTn is low exactly where `SIR & SIMR` is not 0.
+/// The interrupt registers as bits: a bit of Sn_IR reads 1 exactly where it is raised; a socket asks exactly where `Sn_IR &
+/// Sn_IMR` is not 0; bit n of SIR reads 1 exactly where socket n asks; INTn is low exactly where `SIR & SIMR` is not 0.
 pub fn interrupts_as_bits()
     ensures bit { (starts : Starts) (past : Past) (n : ℕ) (bit : Interrupt) → has_bit (interrupt_register starts past n) (bit_value bit) ≡ raised starts past n bit }
     ensures asks { (starts : Starts) (past : Past) (n : ℕ) → asks starts past n ≡ not (bit_and (interrupt_register starts past n) (mask past n) == 0) }
@@ -121,16 +121,16 @@ pub fn interrupts_as_bits()
     ensures low { (starts : Starts) (past : Past) → interrupt_low starts past ≡ not (bit_and (sir_register starts past) (enabled_sockets past) == 0) }
 {}
 
-/// What a link may answer to a call that is due, within what is offered to it or may be read at once, adds an entry that fits; and
-/// what it took of the offered bytes goes on behind what it took before.
+/// What a link may answer to a call that is due, within what is offered to it or may be read at once, adds an entry that fits;
+/// and what it took of the offered bytes goes on behind what it took before.
 pub fn answers_fit()
     ensures fits { (starts : Starts) (past : Past) (n : ℕ) (call : Due) (answer : LinkAnswer) → n < 8 → IsDue starts past n call → MayAnswer starts past n call answer
         → AnswerFits starts past n call answer }
     ensures given { (starts : Starts) (past : Past) (n k : ℕ) → is_open (status past n) ≡ true → k ≤ offered_length starts past n → GivesOffered starts past n k }
 {}
 
-/// After a reset each address of each block reads what it reads after power-on, INTn is high, and both directions of each socket are
-/// fresh, with buffers of 2 KB.
+/// After a reset each address of each block reads what it reads after power-on, INTn is high, and both directions of each socket
+/// are fresh, with buffers of 2 KB.
 pub fn reset_restores()
     ensures reads { (starts : Starts) (past : Past) (entry : Entry) (block : Block) (at : ℕ) → is_reset (access_of past entry) ≡ true
         → byte_at starts (entry ∷ past) block at ≡ byte_at starts [] block at }
@@ -168,8 +168,8 @@ pub fn send_that_fits()
     ensures adds { (starts : Starts) (past : Past) (e : BusEvent) (a : BusAnswer) (n : ℕ) → WritesSend past e n → sends (status past n) ≡ true → SendsRange starts past (Bus e a) n }
 {}
 
-/// In each status of a connection, after DISCON and after the peer's end too, and in UDP, what was sent and not taken is in flight, and
-/// what was received and not released is unread. While no old life is there, what is in flight is due.
+/// In each status of a connection, after DISCON and after the peer's end too, and in UDP, what was sent and not taken is in
+/// flight, and what was received and not released is unread. While no old life is there, what is in flight is due.
 pub fn windows_of_a_connection()
     ensures flight { (starts : Starts) (past : Past) (n : ℕ) → Carries past n → flight starts past n ≡ length (sent_now starts past n) - taken_now past n }
     ensures unread { (starts : Starts) (past : Past) (n : ℕ) → Carries past n → unread starts past n ≡ length (got_now starts past n) - released_now starts past n }
@@ -181,8 +181,8 @@ pub fn written_reads_back()
     ensures { (past : Past) (entry : Entry) (n addr v at : ℕ) → access_of past entry ≡ Write (tx_buffer_of n) addr v → 0 < tx_size past n → tx_byte (entry ∷ past) n at ≡ byte_now past n addr v at }
 {}
 
-/// Datagrams. While one is in flight another SEND stops; the link takes it whole. One that comes is put with a header of eight bytes
-/// where that and its body are free, and raises RECV; else it is lost, and raises nothing.
+/// Datagrams. While one is in flight another SEND stops; the link takes it whole. One that comes is put with a header of eight
+/// bytes where that and its body are free, and raises RECV; else it is lost, and raises nothing.
 pub fn datagrams()
     ensures busy { (starts : Starts) (past : Past) (e : BusEvent) (n : ℕ) → WritesSend past e n → status past n ≡ Udp → 0 < flight starts past n → stop starts past e ≡ Some (SendBusy n) }
     ensures whole { (starts : Starts) (past : Past) (n k : ℕ) → status past n ≡ Udp → fits starts past n (Took k) ≡ true → k ≡ flight starts past n }

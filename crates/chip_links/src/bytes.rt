@@ -17,8 +17,8 @@ use crate::notes::{self, RECEIVED};
 use chip_parts::parts::Parts;
 use chip_sheet::event::LinkWhat;
 
-/// The bytes in flight of socket `sn`, 0 to 7, in order, in at most two pieces of the memory. A stream offers the first of them to its
-/// link; a datagram is both.
+/// The bytes in flight of socket `sn`, 0 to 7, in order, in at most two pieces of the memory. A stream offers the first of them
+/// to its link; a datagram is both.
 pub fn offer(parts: &Parts, sn: u8) -> (&[u8], &[u8])
     requires { sn < 8 }
     ensures bytes { (starts : Starts) (past : Past) → Legal starts past → Holds starts parts.now past → result.0.now ++ result.1.now ≡ in_flight starts past sn }

@@ -94,8 +94,8 @@ fn took(parts: &mut Parts, sn: u8, count: u32)
     notes::note(parts, sn, &LinkWhat::Took(count), bits);
 }
 
-/// These bytes came from the peer. In ESTABLISHED they are put into the RX buffer and RECV rises, else they are thrown away. Answers how
-/// many were put.
+/// These bytes came from the peer. In ESTABLISHED they are put into the RX buffer and RECV rises, else they are thrown away.
+/// Answers how many were put.
 fn got(parts: &mut Parts, sn: u8, bytes: &[u8]) -> usize
     requires sn { sn < 8 }
     requires few { is_established (life_of (slice_index_or parts.old.lives sn no_life)).status ≡ true → length bytes.now ≤ rx_free parts.old.rings sn }
@@ -112,8 +112,8 @@ fn got(parts: &mut Parts, sn: u8, bytes: &[u8]) -> usize
     }
 }
 
-/// A datagram came. In UDP it is put into the RX buffer behind its header and RECV rises, where both are free of it; else it is lost.
-/// Answers how many bytes were put.
+/// A datagram came. In UDP it is put into the RX buffer behind its header and RECV rises, where both are free of it; else it is
+/// lost. Answers how many bytes were put.
 fn datagram(parts: &mut Parts, sn: u8, from: Addr, body: &[u8]) -> usize
     requires { sn < 8 }
     ensures holds { TakesEvent parts.old sn (Datagram from body.now) parts.new }

@@ -52,8 +52,8 @@ fn take_peer(registers: &mut SockRegs, e: &LinkWhat<'_>)
     }
 }
 
-/// Takes a link event of a socket, but for its buffers: the life goes on, the registers show an accepted peer, these bits of Sn_IR rise,
-/// and SIR follows.
+/// Takes a link event of a socket, but for its buffers: the life goes on, the registers show an accepted peer, these bits of
+/// Sn_IR rise, and SIR follows.
 pub(crate) fn note(parts: &mut Parts, sn: u8, e: &LinkWhat<'_>, bits: u8)
     requires { sn < 8 }
     ensures notes { (starts : Starts) (past : Past) (what : LinkEntry) → SameToLife what (link_entry e.now) → NotesAt starts past what sn bits parts.old parts.new }

@@ -55,7 +55,8 @@ pub struct View {
     pub gave: Option<Over>,
     pub their_found: Option<Found>,
     pub their_gave: Option<Over>,
-    /// What it found when its turn came: how many passes had not ended, how many link calls were made, and the cause that was kept.
+    /// What it found when its turn came: how many passes had not ended, how many link calls were made, and the cause that was
+    /// kept.
     pub live: u64,
     pub calls: u64,
     pub cause: Option<Over>,

@@ -1,9 +1,10 @@
 //! Turns, and the calls that take them.
 //!
-//! A turn is taken with a ticket: a call draws the next one, waits until it is served, and takes the state out; it makes its step, puts
-//! the state back, and the next ticket is served. Tickets are served in the order in which they were drawn, so a thread that waits has
-//! its turn as soon as all that drew before it have had theirs. A thread that waits looks on for a short while, and then sleeps until a
-//! ticket is served; it counts itself among those asleep before, so that a turn behind which nobody sleeps wakes none.
+//! A turn is taken with a ticket: a call draws the next one, waits until it is served, and takes the state out; it makes its
+//! step, puts the state back, and the next ticket is served. Tickets are served in the order in which they were drawn, so a
+//! thread that waits has its turn as soon as all that drew before it have had theirs. A thread that waits looks on for a short
+//! while, and then sleeps until a ticket is served; it counts itself among those asleep before, so that a turn behind which
+//! nobody sleeps wakes none.
 ghost use Rattle.std.specs.Prelude.{◌≡◌, ◌<◌, [], None, Some, IfOk, IfErr};
 ghost use Rattle.chip_lock.specs.Overs.{IsGiven};
 ghost use Rattle.chip_shared.specs.State.{Keeps};
@@ -52,8 +53,8 @@ impl<L: Links> Turn<L> {
     ghost use Rattle.chip_lock.specs.Seats.{Resting, IsWaiting, IsInside, IsOut, MayLeave, Gathered};
     ghost use Rattle.chip_lock.specs.Views.{left_with};
 
-    /// Waits a little for the next ticket to be served: by looking on for a short while, since a turn takes little time, and then asleep
-    /// until another ticket is served. Answers how often it has looked on.
+    /// Waits a little for the next ticket to be served: by looking on for a short while, since a turn takes little time, and then
+    /// asleep until another ticket is served. Answers how often it has looked on.
     fn pause<R: Wait>(&self, rt: &R, served: u64, looks: u32) -> u32 {
         if looks < MOST_LOOKS {
             spin_loop();

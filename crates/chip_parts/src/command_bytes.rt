@@ -16,7 +16,8 @@ impl Parts {
     ghost use Rattle.chip_parts.specs.Writing.{Passes, AtLegalByte, RefusesLegal};
     ghost use Rattle.chip_parts.specs.Passing.{passed};
 
-    /// Takes a byte written to Sn_CR, of any value. Answers how many bytes were passed to SEND, at most 16,384; 0 of any other command.
+    /// Takes a byte written to Sn_CR, of any value. Answers how many bytes were passed to SEND, at most 16,384; 0 of any other
+    /// command.
     ///
     /// # Errors
     ///

@@ -29,8 +29,8 @@ fn reset_lives(lives: &mut [Life; 8])
 impl Parts {
     ghost use Rattle.chip_parts.specs.Writing.{AtByte, Goes, Refuses};
 
-    /// Makes of all but the common registers what a reset makes of them: the registers and the buffers are as after power-on, and each
-    /// socket is closed.
+    /// Makes of all but the common registers what a reset makes of them: the registers and the buffers are as after power-on, and
+    /// each socket is closed.
     fn reset(&mut self)
         ensures registers { (n : ℕ) (other : SockRegs) → n < 8 → Reads (slice_index_or self.new.registers n other) reset_value }
         ensures lives { (n : ℕ) (other : Life) (to : Addr) (port : ℕ) → n < 8 → Happened (slice_index_or self.old.lives n other) because.Reset to port (slice_index_or self.new.lives n other) }

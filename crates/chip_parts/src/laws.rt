@@ -8,8 +8,9 @@ ghost use Rattle.chip_sheet.specs.Quiet.{writes_to};
 ghost use Rattle.chip_parts.specs.declared.parts.Parts.{Parts};
 ghost use Rattle.chip_parts.specs.Holding.{Holds, AllUntouched, ClosedIsEmpty};
 
-/// Parts that stand for a past stand for it with an entry that touches no socket and writes no common register: a byte that is read, a
-/// byte of an address or control phase, a look, a change of the select line, a byte to an RX buffer, a turn in which nothing happened.
+/// Parts that stand for a past stand for it with an entry that touches no socket and writes no common register: a byte that is
+/// read, a byte of an address or control phase, a look, a change of the select line, a byte to an RX buffer, a turn in which
+/// nothing happened.
 pub fn untouched_parts()
     ensures { (starts : Starts) (past : Past) (entry : Entry) (parts : Parts) → Holds starts parts past → writes_to (access_of past entry) 0 ≡ false → AllUntouched past entry
         → Holds starts parts (entry ∷ past) }

@@ -44,8 +44,8 @@ impl Parts {
     ghost use Rattle.chip_parts.specs.Writing.{Passes, AtLegalByte, Goes, RefusesLegal, StepsRegisters, HasLife};
     ghost use Rattle.chip_parts.specs.Passing.{passed};
 
-    /// Takes a command that has no stop but those of the buffers, which have taken it before: in the life and in the registers of a
-    /// socket. Raises these bits of Sn_IR.
+    /// Takes a command that has no stop but those of the buffers, which have taken it before: in the life and in the registers of
+    /// a socket. Raises these bits of Sn_IR.
     fn take(&mut self, sn: u8, v: u8, at: CmdAt, bits: u8)
         requires sn { sn < 8 }
         requires no_stop { (n mode : ℕ) (status : Status) (valid : Bool) → life_stop n status mode valid v ≡ None }
@@ -68,8 +68,8 @@ impl Parts {
         self.lives[sn as usize].is_udp() && 0 < self.rings.flight(sn)
     }
 
-    /// Takes SEND: the bytes from Sn_TX_RD to Sn_TX_WR are in flight, and where there are none, SENDOK rises at once. A status that does
-    /// not take SEND ignores it. Answers how many bytes were passed, at most 16,384.
+    /// Takes SEND: the bytes from Sn_TX_RD to Sn_TX_WR are in flight, and where there are none, SENDOK rises at once. A status
+    /// that does not take SEND ignores it. Answers how many bytes were passed, at most 16,384.
     ///
     /// # Errors
     ///
@@ -100,7 +100,8 @@ impl Parts {
         }
     }
 
-    /// Takes RECV: the bytes up to Sn_RX_RD are released, and where bytes remain, RECV rises again. A status that is not open ignores it.
+    /// Takes RECV: the bytes up to Sn_RX_RD are released, and where bytes remain, RECV rises again. A status that is not open
+    /// ignores it.
     ///
     /// # Errors
     ///

@@ -42,8 +42,8 @@ impl Parts {
         }
     }
 
-    /// Writes a byte at an address of the block with these select bits, 0 to 31, and answers how many bytes were passed to SEND, 0 to
-    /// 16,384: none by anything but SEND. A byte to an RX buffer has no effect.
+    /// Writes a byte at an address of the block with these select bits, 0 to 31, and answers how many bytes were passed to SEND,
+    /// 0 to 16,384: none by anything but SEND. A byte to an RX buffer has no effect.
     ///
     /// # Errors
     ///

@@ -7,8 +7,8 @@ ghost use Rattle.chip_sheet.specs.declared.socket.Due.TheVariants as due;
 ghost use Rattle.chip_sheet.specs.declared.stop.ChipStop.TheVariants.{SizeWhileOpen, OverwriteInFlight, Multicast, BadBufferSize, SendBusy, SendTooLong, RecvPastEnd};
 ghost use Rattle.chip_rows.specs.Rows.{opened_for_udp_7, connected_7, ◌prints◌, line, long, Prints, Stops, IsNotDue, due_after, sent_after, got_after, supplied_after, destinations_after};
 
-/// OPEN with the protocol UDP: the status is 22 and all four pointers are 0, whatever the starts are; bits 6..4 of Sn_MR are no part of
-/// the protocol.
+/// OPEN with the protocol UDP: the status is 22 and all four pointers are 0, whatever the starts are; bits 6..4 of Sn_MR are no
+/// part of the protocol.
 pub fn opens_for_udp()
     ensures { Prints (
         "start 258 772" prints ""
@@ -18,8 +18,8 @@ pub fn opens_for_udp()
         ∷ []) }
 {}
 
-/// In UDP the commands of a connection do nothing, nor does OPEN, nor a write of another protocol; CLOSE closes, and the life is to be
-/// dropped.
+/// In UDP the commands of a connection do nothing, nor does OPEN, nor a write of another protocol; CLOSE closes, and the life is
+/// to be dropped.
 pub fn keeps_the_status()
     ensures { Prints (
         opened_for_udp_7
@@ -53,8 +53,8 @@ pub fn receives_in_turn()
         ∷ []) }
 {}
 
-/// A datagram of at most 1,472 bytes is received where eight bytes more than its length are free; else it is dropped, which raises
-/// nothing and moves no pointer.
+/// A datagram of at most 1,472 bytes is received where eight bytes more than its length are free; else it is dropped, which
+/// raises nothing and moves no pointer.
 pub fn drops_what_does_not_fit()
     ensures fit { Prints (
         opened_for_udp_7
@@ -124,7 +124,8 @@ pub fn sends_a_datagram()
     ensures none { IsNotDue (opened_for_udp_7 ∷ "L 00 03 E8 00 H @7:took:1" prints "00 00 00 22" ∷ []) }
 {}
 
-/// A datagram goes from the port that Sn_PORT held at OPEN to the address and the port that Sn_DIPR and Sn_DPORT held at its SEND.
+/// A datagram goes from the port that Sn_PORT held at OPEN to the address and the port that Sn_DIPR and Sn_DPORT held at its
+/// SEND.
 pub fn sends_where_the_registers_say()
     ensures send { due_after (opened_for_udp_7 ∷ line "L 00 05 EC 01 H L 00 0C EC 0A 00 00 02 17 70 H L 00 25 EC 02 H" ∷ line "L 00 01 EC 20 H L 00 0F EC 09 H" ∷ []) 14 ≡ Some (due.SendTo (connection 7 1) 5000 (record { ip = 10 ∷ 0 ∷ 0 ∷ 2 ∷ []; port = 6000 })) }
     ensures next { due_after (opened_for_udp_7 ∷ line "L 00 0C EC 0A 00 00 02 17 70 H L 00 25 EC 02 H L 00 01 EC 20 H" ∷ line "@7:took:2 L 00 0F EC 09 H L 00 25 EC 03 H L 00 01 EC 20 H" ∷ []) 14 ≡ Some (due.SendTo (connection 7 1) 5000 (record { ip = 10 ∷ 0 ∷ 0 ∷ 9 ∷ []; port = 6000 })) }

@@ -4,8 +4,8 @@
 ghost use Rattle.std.specs.Prelude.{[], ◌∷◌};
 ghost use Rattle.chip_rows.specs.Rows.{connected, connected_7, ◌prints◌, Prints};
 
-/// INTn is low while a raised bit is 1 in the socket's mask and the socket's bit is 1 in SIMR. A bit that Sn_IMR masks is raised, and
-/// SIR does not show it.
+/// INTn is low while a raised bit is 1 in the socket's mask and the socket's bit is 1 in SIMR. A bit that Sn_IMR masks is raised,
+/// and SIR does not show it.
 pub fn lowers_the_line()
     ensures raised { Prints (
         connected
@@ -83,8 +83,8 @@ pub fn lowers_for_each_socket()
         ∷ []) }
 {}
 
-/// The five bits of Sn_IR: each is masked by its own bit of Sn_IMR, and each is cleared by a 1, the others stay. The bits above them
-/// are none.
+/// The five bits of Sn_IR: each is masked by its own bit of Sn_IMR, and each is cleared by a 1, the others stay. The bits above
+/// them are none.
 pub fn has_five_bits()
     ensures { Prints (
         connected_7

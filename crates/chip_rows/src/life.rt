@@ -147,8 +147,8 @@ pub fn closes_when_shut_last()
 {}
 
 /// A link that fails where a call is due closes the socket and raises TIMEOUT: at CONNECT and LISTEN; at reading; at writing,
-/// here with an RX buffer of no size, so that nothing is read; behind DISCON at the end of the link, where the peer has ended, and
-/// at reading away, where the link was shut; in CLOSE_WAIT at writing; in LAST_ACK at writing and at the end of the link.
+/// here with an RX buffer of no size, so that nothing is read; behind DISCON at the end of the link, where the peer has ended,
+/// and at reading away, where the link was shut; in CLOSE_WAIT at writing; in LAST_ACK at writing and at the end of the link.
 pub fn fails()
     ensures connect { Prints (
         opened_7

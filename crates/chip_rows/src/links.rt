@@ -83,8 +83,8 @@ pub fn uses_a_connection()
     ensures last_write { due_after (connected ∷ line "@0:ended L 00 25 0C 02 H L 00 01 0C 20 H L 00 01 0C 08 H" ∷ []) 0 ≡ Some (due.Write (connection 0 1)) }
 {}
 
-/// A life that closes, where the link was asked in it, is to be dropped before anything else is due. A life that closes while it is
-/// not dropped does not take its place. The next life has the next number.
+/// A life that closes, where the link was asked in it, is to be dropped before anything else is due. A life that closes while it
+/// is not dropped does not take its place. The next life has the next number.
 pub fn drops_an_old_life()
     ensures first { due_after (connected ∷ line "L 00 00 04 80 H L 00 00 0C 01 H L 00 01 0C 01 H L 00 01 0C 04 H" ∷ []) 0 ≡ Some (due.Drop (connection 0 1)) }
     ensures alone { due_after (connected ∷ line "L 00 00 04 80 H L 00 00 0C 01 H L 00 01 0C 01 H L 00 01 0C 02 H" ∷ []) 1 ≡ Some due.Nothing }
@@ -97,8 +97,8 @@ pub fn drops_an_old_life()
     ensures refused { due_after (opened ∷ line "L 00 01 0C 04 H @0:refused" ∷ []) 0 ≡ Some (due.Drop (connection 0 1)) }
 {}
 
-/// What is offered to the link at once are the bytes in flight up to the end of the buffer, and what it may read at once is what is
-/// free, up to the end of the buffer and to 1,472 bytes.
+/// What is offered to the link at once are the bytes in flight up to the end of the buffer, and what it may read at once is what
+/// is free, up to the end of the buffer and to 1,472 bytes.
 pub fn lends_up_to_the_end()
     ensures in_flight { after (line "start 2047 0" ∷ connected ∷ line "L 07 FF 14 AA BB H L 00 24 0C 08 01 H L 00 01 0C 20 H" ∷ []) (λ starts past. in_flight starts past 0) ≡ Some (0xAA ∷ 0xBB ∷ []) }
     ensures offered { after (line "start 2047 0" ∷ connected ∷ line "L 07 FF 14 AA BB H L 00 24 0C 08 01 H L 00 01 0C 20 H" ∷ []) (λ starts past. offered starts past 0) ≡ Some (0xAA ∷ []) }

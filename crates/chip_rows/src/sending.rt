@@ -64,8 +64,9 @@ pub fn tears_a_pair()
         ∷ []) }
 {}
 
-/// The byte behind those in flight may be written, and the first of them may not. Once it is taken its place may be written, and the
-/// second byte's may not. The stop names the place, the address modulo the size. Once the life has closed nothing is in flight.
+/// The byte behind those in flight may be written, and the first of them may not. Once it is taken its place may be written, and
+/// the second byte's may not. The stop names the place, the address modulo the size. Once the life has closed nothing is in
+/// flight.
 pub fn stops_an_overwrite()
     ensures first { Stops (
         connected

@@ -46,7 +46,8 @@ pub fn no_size()
     ensures { Prints ("L 00 1F 0C 00 H L 00 00 14 55 H L 00 00 10 00 H L 00 20 08 00 00 H" prints "00 00 00 00 00 00 00 00 00 00 00 00 00 00 00 00 00" ∷ []) }
 {}
 
-/// A TX buffer of 16 KB has a place for each address below 4000: the one at 0800 is another than that at 0000, and 4000 is the same.
+/// A TX buffer of 16 KB has a place for each address below 4000: the one at 0800 is another than that at 0000, and 4000 is the
+/// same.
 pub fn fills_a_large_buffer()
     ensures { Prints (
         "L 00 1F 0C 00 H L 00 1F 2C 00 H L 00 1F 4C 00 H L 00 1F 6C 00 H" prints "00 00 00 00 00 00 00 00 00 00 00 00 00 00 00 00"
@@ -68,8 +69,8 @@ pub fn receives_in_a_large_buffer()
         ∷ []) }
 {}
 
-/// OPEN stops while a size of some socket is none of those that there are, of the TX buffers alone or of the RX buffers alone, and
-/// while the sizes are too many together.
+/// OPEN stops while a size of some socket is none of those that there are, of the TX buffers alone or of the RX buffers alone,
+/// and while the sizes are too many together.
 pub fn stops_a_bad_size()
     ensures tx { Stops ("L 00 1F 0C 03 H L 00 00 0C 01 H L 00 01 0C 01" prints "00 00 00 00 00 00 00 00 00 00 00" ∷ []) (BadBufferSize 0) }
     ensures rx { Stops ("L 00 1E 6C 03 H L 00 00 EC 01 H L 00 01 EC 01" prints "00 00 00 00 00 00 00 00 00 00 00" ∷ []) (BadBufferSize 7) }

@@ -15,7 +15,8 @@ use chip_sheet::event::{Event, LinkWhat};
 use chip_sheet::socket::Due;
 use link_trait::links::Links;
 
-/// Takes what the link of a socket did into chip and history; where it did nothing, a turn in which nothing happened into the history.
+/// Takes what the link of a socket did into chip and history; where it did nothing, a turn in which nothing happened into the
+/// history.
 fn settle(chip: &mut Chip, history: &mut History, sn: u8, what: Option<LinkWhat<'_>>)
     requires { IsReady chip.old history.old sn what }
     ensures stands { (starts : Starts) (past : Past) → Stands starts chip.old past → Stands starts chip.new (entry_for sn what.entry ∷ past) }

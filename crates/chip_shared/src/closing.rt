@@ -83,8 +83,8 @@ impl<L: Links> Shared<L> {
         }
     }
 
-    /// Makes link steps at the outgoing place of a socket, 0 to 7, while something is due there, and answers whether a call failed.
-    /// It ends: each call takes bytes that are in flight, or leads the socket nearer to its end.
+    /// Makes link steps at the outgoing place of a socket, 0 to 7, while something is due there, and answers whether a call
+    /// failed. It ends: each call takes bytes that are in flight, or leads the socket nearer to its end.
     ///
     /// # Errors
     ///
@@ -108,9 +108,9 @@ impl<L: Links> Shared<L> {
         Ok(false)
     }
 
-    /// Offers what is in flight to the links, where no stop was answered: it goes through the sockets 0 to 7 in this order, and makes
-    /// link steps at the outgoing place of each while something is due there. Behind a call that was answered NotYet, or that failed,
-    /// it goes on to the next socket. A step that is refused ends it.
+    /// Offers what is in flight to the links, where no stop was answered: it goes through the sockets 0 to 7 in this order, and
+    /// makes link steps at the outgoing place of each while something is due there. Behind a call that was answered NotYet, or
+    /// that failed, it goes on to the next socket. A step that is refused ends it.
     pub fn closing(&mut self) -> Closing
         requires { self.old.stopped ≡ None }
         ensures steps { Closes (Does L.effect L.shown) 8 0 false self.old result self.new }

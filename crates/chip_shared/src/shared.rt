@@ -123,8 +123,8 @@ impl<L: Links> Shared<L> {
     ///
     /// # Errors
     ///
-    /// `Stopped` with the stop of the event, or the one that was kept; `TraceFull` where the history has reached its limit; `NoMemory`,
-    /// which may come where there is no room for an event.
+    /// `Stopped` with the stop of the event, or the one that was kept; `TraceFull` where the history has reached its limit;
+    /// `NoMemory`, which may come where there is no room for an event.
     pub fn bus_step(&mut self, e: BusEvent) -> Result<BusAnswer, StepEnd>
         ensures asks { Asks self.old e result self.new }
         ensures sends { (n : ℕ) → IsOpen self.old → 0 < self.old.log.spare_events → Fits self.old e n → Goes self.old n result self.new }

@@ -26,8 +26,8 @@ impl<L: Links> Shared<L> {
     ///
     /// # Errors
     ///
-    /// `Stopped` where a stop is kept; `TraceFull` where the history has reached its limit; `NoMemory`, which may come where the room
-    /// is not there.
+    /// `Stopped` where a stop is kept; `TraceFull` where the history has reached its limit; `NoMemory`, which may come where the
+    /// room is not there.
     pub(crate) fn ready(&mut self, events: u64, bytes: u64) -> Result<(), StepEnd>
         ensures keeps { Keeps self.old self.new }
         ensures stopped { self.new.stopped ≡ self.old.stopped }
@@ -68,13 +68,13 @@ impl<L: Links> Shared<L> {
         }
     }
 
-    /// Makes the first link call that is due at the places from this one on, 0 to 15, on what the chip lends; its answer stands in the
-    /// history. Where nothing is due, a turn in which nothing happened stands there.
+    /// Makes the first link call that is due at the places from this one on, 0 to 15, on what the chip lends; its answer stands
+    /// in the history. Where nothing is due, a turn in which nothing happened stands there.
     ///
     /// # Errors
     ///
-    /// `Stopped` where a stop is kept; `TraceFull` where the history has reached its limit; `NoMemory`, which may come where there is no
-    /// room for an event and 1,472 bytes.
+    /// `Stopped` where a stop is kept; `TraceFull` where the history has reached its limit; `NoMemory`, which may come where
+    /// there is no room for an event and 1,472 bytes.
     pub fn link_step(&mut self, from: u8) -> Result<LinkDid, StepEnd>
         requires { from < 16 }
         ensures step { Steps (Does L.effect L.shown) self.old from result self.new }

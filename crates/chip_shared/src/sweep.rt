@@ -27,8 +27,8 @@ impl<L: Links> Shared<L> {
     ghost use Rattle.chip_shared.specs.Sweeping.{Sweeps};
     ghost use Rattle.chip_shared.specs.Causes.{Does, Later};
 
-    /// Makes the link calls that are due at the places 0 to 15, in this order: each place is met at most once. Where nothing more is
-    /// due, a turn in which nothing happened is added.
+    /// Makes the link calls that are due at the places 0 to 15, in this order: each place is met at most once. Where nothing more
+    /// is due, a turn in which nothing happened is added.
     ///
     /// # Errors
     ///

@@ -1,3 +1,5 @@
+//! The blocks of the chip's memory.
+
 /// A block of the chip's memory, by the block select bits (W5500 datasheet, 2.2.2 control phase, BSB).
 #[derive(Clone, Copy, Debug, PartialEq, Eq)]
 pub enum Block {

@@ -1,3 +1,5 @@
+//! The phases of an SPI frame.
+
 /// Where the next byte of the bus stands (W5500 datasheet, 2.2 SPI frame).
 #[derive(Clone, Copy, Debug, PartialEq, Eq)]
 pub enum Phase {

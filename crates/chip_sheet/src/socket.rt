@@ -1,3 +1,5 @@
+//! Statuses of a socket, and what an entry is for it.
+
 use crate::event::{Addr, ConnId};
 
 /// The status of a socket (W5500 datasheet, 4.2 Sn_SR). The temporary ones never show (this profile's own).

@@ -1,3 +1,5 @@
+//! Why the chip stops the board.
+
 /// Why the board stops in place of an answer. The stops are this profile's own: each names what the firmware asks for and the
 /// board does not model, or a use of the chip that would harm the data.
 #[derive(Clone, Copy, Debug, PartialEq, Eq)]

@@ -29,7 +29,8 @@ pub fn taken_grows()
     ensures bus { (starts : Starts) (past : Past) (e : BusEvent) (a : BusAnswer) (n : ℕ) → Legal starts past → taken_in_all (Bus e a ∷ past) n ≡ taken_in_all past n }
 {}
 
-/// A link event adds the bytes that it puts into the RX buffer to what was received in all lives of its socket, and nothing else does.
+/// A link event adds the bytes that it puts into the RX buffer to what was received in all lives of its socket, and nothing else
+/// does.
 pub fn got_grows()
     ensures by_link { (starts : Starts) (past : Past) (n : ℕ) (what : LinkEntry) → got_in_all starts (Link n what ∷ past) n ≡ got_in_all starts past n + length (put_by (status past n) (rx_free starts past n) what) }
     ensures other_link { (starts : Starts) (past : Past) (m n : ℕ) (what : LinkEntry) → (m ≡ n → ⊥) → got_in_all starts (Link m what ∷ past) n ≡ got_in_all starts past n }

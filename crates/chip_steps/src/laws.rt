@@ -30,8 +30,8 @@ ghost use Rattle.chip_sheet.specs.Sending.{after_write, after_commit, after_take
 ghost use Rattle.chip_sheet.specs.Receiving as receives;
 ghost use Rattle.chip_steps.specs.Steps.{is_quiet, IsNothing, CommandAlone, LeavesSent, LeavesGot, BeginsLife, StaysOpen, IsShutAfter, NotToRegisters, NotToBuffer, KeepsTxSizes, KeepsRxSizes, SendsBy, ReceivesBy, SendsSame, ReceivesSame, due_length, ReceivesPut, IsSend, IsReceive, IsNoReset, WritesRegister, IsOpen, TakesSend, SendsPointer, ReceivesPointer, due_release, is_left_unread, OffersSame, overwrite_at, resize_at};
 
-/// A command or a link event that leaves what was sent changes nothing of what a socket sends where the socket is open after it as
-/// before, and empties the window where it is not open after it.
+/// A command or a link event that leaves what was sent changes nothing of what a socket sends where the socket is open after it
+/// as before, and empties the window where it is not open after it.
 pub fn sending_left()
     ensures stays { (starts : Starts) (past : Past) (entry : Entry) (n : ℕ) → CommandAlone past entry n → LeavesSent past entry n
         → StaysOpen past entry n → SendsSame starts past entry n }
@@ -39,8 +39,8 @@ pub fn sending_left()
         → IsShutAfter past entry n → SendsBy starts past entry n after_empty }
 {}
 
-/// What a write that is no command makes of what a socket sends: a byte of its TX buffer, a byte of its registers, and a change of a TX
-/// size, of this socket or another. A write elsewhere leaves it.
+/// What a write that is no command makes of what a socket sends: a byte of its TX buffer, a byte of its registers, and a change
+/// of a TX size, of this socket or another. A write elsewhere leaves it.
 pub fn sending_written()
     ensures unwritten { (starts : Starts) (past : Past) (entry : Entry) (n : ℕ) → IsNothing past entry n → NotToRegisters past entry n
         → NotToBuffer past entry n → KeepsTxSizes past entry → SendsSame starts past entry n }
@@ -63,8 +63,8 @@ pub fn sending_steps()
         → SendsBy starts past (Link n what) n (λ s. after_begin s starts.tx) }
 {}
 
-/// A command or a link event that leaves what was received changes nothing of what a socket receives where the socket is open after it
-/// as before, and empties the window where it is not open after it.
+/// A command or a link event that leaves what was received changes nothing of what a socket receives where the socket is open
+/// after it as before, and empties the window where it is not open after it.
 pub fn receiving_left()
     ensures stays { (starts : Starts) (past : Past) (entry : Entry) (n : ℕ) → CommandAlone past entry n → LeavesGot past entry n
         → StaysOpen past entry n → ReceivesSame starts past entry n }
@@ -72,8 +72,8 @@ pub fn receiving_left()
         → IsShutAfter past entry n → ReceivesBy starts past entry n receives.after_empty }
 {}
 
-/// What a write that is no command makes of what a socket receives: a byte of its registers, and a change of an RX size, of this socket
-/// or another. A write elsewhere, to a TX buffer too, leaves it.
+/// What a write that is no command makes of what a socket receives: a byte of its registers, and a change of an RX size, of this
+/// socket or another. A write elsewhere, to a TX buffer too, leaves it.
 pub fn receiving_written()
     ensures unwritten { (starts : Starts) (past : Past) (entry : Entry) (n : ℕ) → IsNothing past entry n → NotToRegisters past entry n
         → KeepsRxSizes past entry → ReceivesSame starts past entry n }
@@ -97,8 +97,8 @@ pub fn receiving_steps()
         → ReceivesBy starts past (Link n what) n (λ g. receives.after_begin g starts.rx) }
 {}
 
-/// What the registers of the windows and pointers, the buffers and the moves of the pointers show of the two directions is what the
-/// definitions over a history show.
+/// What the registers of the windows and pointers, the buffers and the moves of the pointers show of the two directions is what
+/// the definitions over a history show.
 pub fn directions_show()
     ensures tx { (starts : Starts) (past : Past) (n addr : ℕ) → 0x20 ≤ addr → addr < 0x26 → socket_register starts past n addr ≡ sends_of.tx_pointer (sending starts past n) addr }
     ensures rx { (starts : Starts) (past : Past) (n addr : ℕ) → 0x26 ≤ addr → addr < 0x2C → socket_register starts past n addr ≡ receives.rx_pointer (receiving starts past n) addr }
@@ -113,8 +113,8 @@ pub fn directions_show()
     ensures room { (starts : Starts) (past : Past) (n : ℕ) → IsOpen past n → receives.room_length (receiving starts past n) ≡ windows.room_length starts past n }
 {}
 
-/// Which sockets an entry does not touch: all others than that of the block that is written, where no size changes, and than that of the
-/// link event.
+/// Which sockets an entry does not touch: all others than that of the block that is written, where no size changes, and than that
+/// of the link event.
 pub fn others_untouched()
     ensures registers { (past : Past) (e : BusEvent) (a : BusAnswer) (n m addr v : ℕ) → m ≢ n → WritesRegister past (Bus e a) n addr v
         → KeepsTxSizes past (Bus e a) → KeepsRxSizes past (Bus e a) → Untouched past (Bus e a) m }
@@ -141,7 +141,8 @@ pub fn stop_of_a_block()
         → stop starts past e ≡ resize_at past e n }
 {}
 
-/// The interrupts that a command raises: SENDOK at a SEND of no bytes, RECV at a RECV after which bytes remain, and none at any other.
+/// The interrupts that a command raises: SENDOK at a SEND of no bytes, RECV at a RECV after which bytes remain, and none at any
+/// other.
 pub fn commands_raise()
     ensures send { (starts : Starts) (past : Past) (entry : Entry) (n : ℕ) → IsSend past entry n
         → interrupts_by starts past n entry ≡ (if sends (status past n) && due_length starts past n == 0 then 16 else 0) }
@@ -150,8 +151,9 @@ pub fn commands_raise()
     ensures others { (starts : Starts) (past : Past) (entry : Entry) (n : ℕ) → is_quiet (cause past n entry) ≡ true → interrupts_by starts past n entry ≡ 0 }
 {}
 
-/// An entry that does not touch a socket leaves what each of its registers reads and whether it asks for an interrupt; one that touches
-/// none leaves SIR. What writes nothing to the common registers leaves them, and what changes no size leaves the eight sizes.
+/// An entry that does not touch a socket leaves what each of its registers reads and whether it asks for an interrupt; one that
+/// touches none leaves SIR. What writes nothing to the common registers leaves them, and what changes no size leaves the eight
+/// sizes.
 pub fn untouched_reads()
     ensures registers { (starts : Starts) (past : Past) (entry : Entry) (n at : ℕ) → Untouched past entry n → socket_register starts (entry ∷ past) n at ≡ socket_register starts past n at }
     ensures asks { (starts : Starts) (past : Past) (entry : Entry) (n : ℕ) → Untouched past entry n → asks starts (entry ∷ past) n ≡ asks starts past n }

@@ -27,8 +27,9 @@ fn take_step(rt: &impl Abort, console: &mut Console, place: usize, step: Step) {
     }
 }
 
-// Five bytes. The first two arrive by frames of 160 cycles from 100 on, and no third one while both wait; a reading at 1,000 lets the next
-// frame begin, of the time that holds then; what waits stays while the receiver is off, and the frame on the way is sent anew.
+// Five bytes. The first two arrive by frames of 160 cycles from 100 on, and no third one while both wait; a reading at 1,000 lets
+// the next frame begin, of the time that holds then; what waits stays while the receiver is off, and the frame on the way is sent
+// anew.
 const STEPS: [Step; 24] = [
     Step::Ready(false),
     Step::Take(None),

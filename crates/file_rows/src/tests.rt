@@ -1,3 +1,5 @@
+//! Rows of board files.
+
 use board_file::{BoardError, board};
 use std::alloc::{AllocError, Global};
 use std::test::Fail;

@@ -2,7 +2,8 @@
 use chip_sheet::event::ConnId;
 use std::snapshot::Snapshot;
 
-/// The connections that were made and not dropped. It takes no memory however many there are, since nothing reads it but contracts.
+/// The connections that were made and not dropped. It takes no memory however many there are, since nothing reads it but
+/// contracts.
 #[derive(Drop)]
 pub enum Made {
     /// None was made.

@@ -1,7 +1,7 @@
 //! Links over sockets of the system, and a poller that waits for them.
 //!
-//! Ports are bound on 127.0.0.1. The links tell no bytes, and no clock is read. What the system does is no part of any contract; how
-//! its answers are counted is ([`HostLinks`] meets the trait of links, [`MioPoller`] that of pollers).
+//! Ports are bound on 127.0.0.1. The links tell no bytes, and no clock is read. What the system does is no part of any contract;
+//! how its answers are counted is ([`HostLinks`] meets the trait of links, [`MioPoller`] that of pollers).
 #![tactic(auto)]
 
 mod connections;

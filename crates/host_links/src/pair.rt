@@ -28,11 +28,11 @@ pub enum HostFault {
 
 /// Links to sockets of the system. They tell no bytes.
 ///
-/// Each socket of the chip has a place for one socket of the system; a call of a later life closes what stands there. A connection
-/// to an address goes by the routes, and is answered TimedOut where none leads from it. Peers connect to ports of 127.0.0.1, on
-/// listeners that the sockets of the chip share; at most 64 are there, and the one that was made first is closed for another. A
-/// datagram goes by the routes, and is lost where none leads from its address; one that comes with more than 1472 bytes is passed
-/// over, and one call looks at 64. No call takes memory.
+/// Each socket of the chip has a place for one socket of the system; a call of a later life closes what stands there. A
+/// connection to an address goes by the routes, and is answered TimedOut where none leads from it. Peers connect to ports of
+/// 127.0.0.1, on listeners that the sockets of the chip share; at most 64 are there, and the one that was made first is closed
+/// for another. A datagram goes by the routes, and is lost where none leads from its address; one that comes with more than 1472
+/// bytes is passed over, and one call looks at 64. No call takes memory.
 #[derive(Drop)]
 pub struct HostLinks<'a, R> {
     /// The sockets.

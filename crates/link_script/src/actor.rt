@@ -153,7 +153,8 @@ fn copy_first(bytes: &[u8], most: usize, buf: &mut [u8]) -> usize
     count
 }
 
-/// The next chunk, and how many bytes of it are read, once so many bytes of a chunk are: where these are all, it is the one after it.
+/// The next chunk, and how many bytes of it are read, once so many bytes of a chunk are: where these are all, it is the one after
+/// it.
 fn place_after(chunk: usize, at: usize, most: usize) -> (usize, usize)
     requires { chunk < 2 ^ 63 }
     ensures next { result.0 ≡ (if at == most then chunk + 1 else chunk) }

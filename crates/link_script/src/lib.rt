@@ -1,7 +1,7 @@
 //! Links in memory: peers that act by a script, and tell every byte.
 //!
-//! The definitions stand in `specs/`: `Acting` says what one peer answers and how far it then is, `Play` which peer a call meets and
-//! what the links show.
+//! The definitions stand in `specs/`: `Acting` says what one peer answers and how far it then is, `Play` which peer a call meets
+//! and what the links show.
 #![tactic(auto)]
 
 pub mod actor;

@@ -52,8 +52,8 @@ pub struct Peer {
     pub chip: u16,
     /// What a server answers to a connection; of other peers it has no meaning.
     pub connect: Connects,
-    /// How many bytes it takes at most at each write, 0 for none now; a datagram is taken whole. After the end of the list it takes
-    /// all.
+    /// How many bytes it takes at most at each write, 0 for none now; a datagram is taken whole. After the end of the list it
+    /// takes all.
     pub takes: Vec<u32>,
     /// How many bytes it takes in all.
     pub room: u32,

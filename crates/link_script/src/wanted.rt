@@ -1,3 +1,5 @@
+//! Whom a scripted peer waits for.
+
 use link_trait::Addr;
 
 /// Which peers a connection may meet.

@@ -93,8 +93,8 @@ pub enum Shutting {
 ///
 /// Every call is made on a connection of one of the sockets 0 to 7. Each call has up to five clauses: `effect`, what the kind of
 /// links says of the call with its answer; `fits`, how many bytes an answer may name; `counts`, where the counts rise and what
-/// stalled; `makes`, which connections are made; `lists`, what the connections that are told were given and gave. The last three are
-/// the same three records at every call.
+/// stalled; `makes`, which connections are made; `lists`, what the connections that are told were given and gave. The last three
+/// are the same three records at every call.
 pub trait Links {
     /// What the links show.
     ghost shown: { Self → Shown };
@@ -136,8 +136,8 @@ pub trait Links {
         ensures makes { Makes (shown self.old) (Write c piece.now) (writing result) (shown self.new) }
         ensures lists { Lists (shown self.old) (Write c piece.now) (writing result) (shown self.new) };
 
-    /// Puts bytes of a connection that is made at the start of a buffer that is not empty, at least one. The rest of the buffer may
-    /// hold anything, after every answer.
+    /// Puts bytes of a connection that is made at the start of a buffer that is not empty, at least one. The rest of the buffer
+    /// may hold anything, after every answer.
     fn read(&mut self, c: ConnId, buf: &mut [u8]) -> Reading
         requires socket { c.sn < 8 }
         requires some { 0 < length buf.old }
@@ -156,8 +156,8 @@ pub trait Links {
         ensures makes { Makes (shown self.old) (SendTo c port to (head.now ++ tail.now)) (sending result) (shown self.new) }
         ensures lists { Lists (shown self.old) (SendTo c port to (head.now ++ tail.now)) (sending result) (shown self.new) };
 
-    /// Puts one datagram that came to a port, of 0 to 1472 bytes, at the start of a buffer of at least 1472. The rest of the buffer
-    /// may hold anything, after every answer.
+    /// Puts one datagram that came to a port, of 0 to 1472 bytes, at the start of a buffer of at least 1472. The rest of the
+    /// buffer may hold anything, after every answer.
     fn recv_from(&mut self, c: ConnId, port: u16, buf: &mut [u8]) -> Receiving
         requires socket { c.sn < 8 }
         requires room { most_read ≤ length buf.old }

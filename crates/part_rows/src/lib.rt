@@ -1,5 +1,5 @@
-//! Worked rows of the chip's parts and of the whole chip: calls beside what they answer and leave, by values from the datasheet. Nothing
-//! stands on it.
+//! Worked rows of the chip's parts and of the whole chip: calls beside what they answer and leave, by values from the datasheet.
+//! Nothing stands on it.
 #![tactic(auto)]
 
 #[cfg(test)]

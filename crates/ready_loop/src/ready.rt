@@ -11,8 +11,9 @@ use link_trait::links::Links;
 use live_trait::{Gate, Point, Poller};
 use std::sync::Wait;
 
-/// One sweep over the places 0 to 15, each step in a turn of its own: from behind the place at which a call was made, until nothing is
-/// due or the last place was met. The gate is passed after each step, outside of the turn. It makes no event of the bus.
+/// One sweep over the places 0 to 15, each step in a turn of its own: from behind the place at which a call was made, until
+/// nothing is due or the last place was met. The gate is passed after each step, outside of the turn. It makes no event of the
+/// bus.
 ///
 /// # Errors
 ///
@@ -73,8 +74,9 @@ pub fn serve_once<R: Wait, L: Links, P: Poller, G: Gate>(
 
 /// Serves the links until this pass has ended: a sweep, then a wait for readiness, and so on.
 ///
-/// Answers the cause with which the pass ended: the one that is kept, or the one for which a step was refused; where a wait failed,
-/// [`Over::PollFault`], unless another cause is kept by then. It may wait for its turns, and returns only where the turns end.
+/// Answers the cause with which the pass ended: the one that is kept, or the one for which a step was refused; where a wait
+/// failed, [`Over::PollFault`], unless another cause is kept by then. It may wait for its turns, and returns only where the turns
+/// end.
 pub fn run_ready<R: Wait, L: Links + Send, P: Poller, G: Gate>(
     rt: &R,
     turn: &Turn<L>,

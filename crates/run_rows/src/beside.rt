@@ -116,8 +116,8 @@ impl<'a> Links for CountLinks<'a> {
     }
 }
 
-/// Runs firmware on links without peers, with one of its calls held, from 0: until a step of the links comes, or until a socket asks
-/// for a client. Answers how the run ended, where that came.
+/// Runs firmware on links without peers, with one of its calls held, from 0: until a step of the links comes, or until a socket
+/// asks for a client. Answers how the run ended, where that came.
 fn run_held<R: Threads + Wait + Sync>(
     rt: &R,
     alloc: Global,

@@ -16,8 +16,8 @@ ghost use Rattle.sock_cmd.specs.Going.{Happens, OneGoesOn, due_by, ordered_stops
 ghost use Rattle.sock_cmd.specs.LifeStops.{life_stop};
 ghost use Rattle.sock_cmd.specs.Effects.{effect_of, Means};
 
-/// A socket that is socket n after a past, and to which the next entry happened, while the registers held what that past leaves in
-/// them, is socket n after that entry.
+/// A socket that is socket n after a past, and to which the next entry happened, while the registers held what that past leaves
+/// in them, is socket n after that entry.
 pub fn goes_on()
     ensures { (before after : Life) (past : Past) (entry : Entry) (n : ℕ) → IsAfter before past n → Happens before past entry n after → IsAfter after (entry ∷ past) n }
 {}
@@ -27,8 +27,8 @@ pub fn stays()
     ensures { (socket : Life) (past : Past) (entry : Entry) (n : ℕ) → IsAfter socket past n → cause past n entry ≡ because.Nothing → IsAfter socket (entry ∷ past) n }
 {}
 
-/// Sockets that are those of a past are those of it with an entry that is nothing for any of them, and so are they where one of them
-/// goes on and the entry is nothing for the others.
+/// Sockets that are those of a past are those of it with an entry that is nothing for any of them, and so are they where one of
+/// them goes on and the entry is nothing for the others.
 pub fn sockets_go_on()
     ensures none { (sockets : List Life) (past : Past) (entry : Entry) → AllAfter sockets past → ((n : ℕ) → cause past n entry ≡ because.Nothing) → AllAfter sockets (entry ∷ past) }
     ensures one { (sockets : List Life) (past : Past) (entry : Entry) (n : ℕ) (after : Life) → OneGoesOn sockets past entry n after }
@@ -39,7 +39,8 @@ pub fn due_is_exact()
     ensures { (starts : Starts) (past : Past) (place : ℕ) (socket : Life) → IsAfter socket past (place / 2) → due_by starts past place socket ≡ due_at starts past place }
 {}
 
-/// The stop of a command is the first of those that a socket alone finds, and then those of SEND and RECV, which never stop before.
+/// The stop of a command is the first of those that a socket alone finds, and then those of SEND and RECV, which never stop
+/// before.
 pub fn stops_in_order()
     ensures order { (n : ℕ) (facts : CommandFacts) (c : ℕ) → command_stop n facts c ≡ first (ordered_stops n facts c) }
     ensures send { (n mode : ℕ) (status : Status) (valid : Bool) → life_stop n status mode valid 0x20 ≡ None }

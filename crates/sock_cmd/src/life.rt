@@ -65,7 +65,8 @@ impl Life {
     /// Takes the command byte `c`, written to Sn_CR while the registers hold `at`, and answers what it came to (datasheet, 4.2
     /// Sn_CR). A command is accepted at once, and one that the status does not take changes nothing.
     ///
-    /// The stops of SEND and RECV are not looked at here: they need the buffers. So the chip commits or releases before it calls this.
+    /// The stops of SEND and RECV are not looked at here: they need the buffers. So the chip commits or releases before it calls
+    /// this.
     ///
     /// # Errors
     ///
@@ -176,9 +177,9 @@ impl Life {
         table::sends(self.status)
     }
 
-    /// The link call that is due at a place of the chip, 0 to 15, where this is the socket of that place, `in_flight` bytes of its TX
-    /// buffer are in flight, and `room` bytes of its RX buffer are free. Place 2n is the outgoing one of socket n, which looks at
-    /// `in_flight`, and 2n + 1 its incoming one, which looks at `room`.
+    /// The link call that is due at a place of the chip, 0 to 15, where this is the socket of that place, `in_flight` bytes of
+    /// its TX buffer are in flight, and `room` bytes of its RX buffer are free. Place 2n is the outgoing one of socket n, which
+    /// looks at `in_flight`, and 2n + 1 its incoming one, which looks at `room`.
     pub fn due(&self, place: u8, in_flight: u32, room: u32) -> Due
         ensures { result ≡ due_of place self.now in_flight room }
     {
@@ -199,7 +200,8 @@ impl Life {
         }
     }
 
-    /// The link call that is due at the outgoing place. While a life that has closed is not forgotten, nothing but its drop is due.
+    /// The link call that is due at the outgoing place. While a life that has closed is not forgotten, nothing but its drop is
+    /// due.
     fn outgoing(&self, sn: u8, in_flight: u32) -> Due
         ensures { result ≡ calls.outgoing_of sn (life_of self.now) (address_of self.now) (port_of self.now) in_flight }
     {

@@ -1,5 +1,5 @@
-//! The table of socket life, and what is asked of a status and of what happens (W5500 datasheet, 4.2 Sn_CR and Sn_SR, figure 4 state
-//! diagram; the rules on links are this profile's own).
+//! The table of socket life, and what is asked of a status and of what happens (W5500 datasheet, 4.2 Sn_CR and Sn_SR, figure 4
+//! state diagram; the rules on links are this profile's own).
 
 ghost use Rattle.std.specs.Prelude.{◌≡◌};
 ghost use Rattle.chip_sheet.specs.Life as sheet;
@@ -10,8 +10,8 @@ ghost use Rattle.chip_sheet.specs.Streams as streams;
 use chip_sheet::event::LinkWhat;
 use chip_sheet::socket::{Cause, Status};
 
-/// The next status, where the table has a line that fits; the first that fits counts. `both` says that the other of Ended and Shut
-/// came before in this life.
+/// The next status, where the table has a line that fits; the first that fits counts. `both` says that the other of Ended and
+/// Shut came before in this life.
 fn row(status: Status, why: Cause, both: bool) -> Option<Status>
     ensures { result ≡ sheet.row status why (record { both = both }) }
 {

@@ -3,8 +3,8 @@
 
 ghost use Rattle.trace_laws.specs.Laws.{TracesAreLegal, TracesAreRead};
 
-/// The trace of a history that the datasheet allows is read as that history. The numbers of its entries fit the types that a program has
-/// for them.
+/// The trace of a history that the datasheet allows is read as that history. The numbers of its entries fit the types that a
+/// program has for them.
 pub fn traces_are_read()
     ensures { TracesAreRead }
 {}

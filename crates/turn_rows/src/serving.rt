@@ -58,8 +58,8 @@ fn send_frame<R: Wait + Abort>(
     assert!(rt; turn.bus(rt, pass, BusEvent::Select(false)).is_ok());
 }
 
-/// A row: which wait fails; whether sockets connect, and whether the other pass ends, before; the cause; link steps; from which place
-/// of the history on there is no event of the bus, and its length.
+/// A row: which wait fails; whether sockets connect, and whether the other pass ends, before; the cause; link steps; from which
+/// place of the history on there is no event of the bus, and its length.
 #[derive(Clone, Copy)]
 struct Row {
     fails: u64,

@@ -163,7 +163,8 @@ fn read_until<R: Wait>(
     unreachable!()
 }
 
-/// A firmware that waits until it is connected, sends a byte, waits until the link took it, and looks at the interrupt line 2,000 times.
+/// A firmware that waits until it is connected, sends a byte, waits until the link took it, and looks at the interrupt line 2,000
+/// times.
 fn converse<R: Wait>(
     rt: &R,
     turn: &Turn<ScriptLinks>,

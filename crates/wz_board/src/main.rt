@@ -1,8 +1,8 @@
-//! The board runner's program: `run HEX BOARD` runs a firmware image on a board over sockets of the host, live, and prints what it
-//! prints and a report; `sim HEX BOARD` runs it with the board's scripted peers in place of sockets; `trace HEX BOARD` prints the
-//! trace of that run; `check HEX BOARD` judges an image and a board; `bus SCRIPT` runs a bus script against the chip and prints what
-//! the chip answers; `judge TRACE` judges the history of a trace; `list HEX` lists the instructions of an image; `gen N` runs the
-//! firmware of an echo server with the peer of a number; `--help` prints these forms.
+//! The board runner's program: `run HEX BOARD` runs a firmware image on a board over sockets of the host, live, and prints what
+//! it prints and a report; `sim HEX BOARD` runs it with the board's scripted peers in place of sockets; `trace HEX BOARD` prints
+//! the trace of that run; `check HEX BOARD` judges an image and a board; `bus SCRIPT` runs a bus script against the chip and
+//! prints what the chip answers; `judge TRACE` judges the history of a trace; `list HEX` lists the instructions of an image; `gen
+//! N` runs the firmware of an echo server with the peer of a number; `--help` prints these forms.
 #![tactic(auto)]
 
 mod hints;
