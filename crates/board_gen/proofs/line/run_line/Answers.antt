@@ -35,3 +35,9 @@ loop-word-preserved c =
           takes (rest + (1 + more)) more here (omega (arith, light, within));
       left = λ further more room. let fits = between further in takes (rest + more) (length c.in-Some.after.now + more) (left (omega (arith, some)) more room) (omega (arith, light, fits));
     }
+
+pub take_word-requires-clause-light : goal.take_word-requires-clause-light
+take_word-requires-clause-light c =
+    let some = c.in-Some.ensures.shorter in
+    let here = c.loop-word.invariant.left (omega (arith, some)) 0 (text_less c.args.session.now.past _ (length c.args.line.now + 0) c.requires.light (omega arith)) in
+    text_less c.loop-word.session.past (length c.loop-word.rest.now + 0) 0 here (omega arith)
